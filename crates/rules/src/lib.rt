@@ -1,0 +1,56 @@
+// The answers of the calls. What each call answers, and when, is said in specs/.
+ghost use mathlib.Core.Path.{_≡_};
+
+// A refusal carries its number and its place.
+pub struct Refusal {
+    pub number: u32,
+    pub place: u32,
+}
+
+// Where a code run stands, and how many steps it took.
+pub struct Halt {
+    pub label: u32,
+    pub steps: u32,
+}
+
+// How many instructions were written, and the label after them.
+pub struct Made {
+    pub instructions: u32,
+    pub end: u32,
+}
+
+pub enum Checked {
+    Done,
+    Refused(Refusal),
+}
+
+pub enum SourceRun {
+    Finished(u32),
+    OutOfFuel(u32),
+    Refused(Refusal),
+}
+
+pub enum CodeRun {
+    Finished(Halt),
+    OutOfFuel(Halt),
+    Refused(Refusal),
+}
+
+pub enum Compiled {
+    Done(Made),
+    Refused(Refusal),
+}
+
+// How many words were read, or how many bytes were written.
+pub enum Text {
+    Done(u32),
+    Refused(Refusal),
+}
+
+impl Refusal {
+    pub fn new(number: u32, place: u32) -> Self
+        ensures { λ r. ⌜ (r .number ≡ number) × (r .place ≡ place) ⌝ }
+    {
+        Self { number, place }
+    }
+}
