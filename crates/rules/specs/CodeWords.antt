@@ -26,7 +26,6 @@ unfoldable pub instrOf : ℕ → ℕ → ℕ → Instr
 instrOf o x y = cond (eqb o 1) (x ≔ y) (cond (eqb o 2) (goto y) (ifnot x y))
 
 unfoldable pub codeOf : List ℕ → Code
-unfolding joined instrOf
 codeOf c = joined (λ k. (part c k 0, instrOf (part c k 1) (part c k 2) (part c k 3)) ∷ []) (instructions c)
 
 -- and the other way: the words of an instruction, and of a piece of code
@@ -36,7 +35,6 @@ frameOf ℓ (goto m) = ℓ ∷ 2 ∷ 0 ∷ m ∷ []
 frameOf ℓ (ifnot b m) = ℓ ∷ 3 ∷ b ∷ m ∷ []
 
 unfoldable pub wordsOf : Code → List ℕ
-unfolding frameOf
 wordsOf [] = []
 wordsOf (li ∷ c) = frameOf (li .0) (li .1) ++ wordsOf c
 
@@ -46,12 +44,10 @@ unfoldable pub wholeCode : List ℕ → Bool
 wholeCode c = eqb (length c % width) 0 && leb (length c) (width * 1024)
 
 unfoldable pub isNode : List ℕ → Class → ℕ → Bool
-unfolding kindOf rowOf
 isNode t c n = ltb n (nodes t) && isClass t c n
 
 -- "targets are 0 to 65,535"
 unfoldable pub fieldsFit : List ℕ → ℕ → ℕ → ℕ → Bool
-unfolding isNode
 fieldsFit t o x y =
     cond (eqb o 1) (ltb x 32 && isNode t arithmetic y)
     (cond (eqb o 2) (eqb x 0 && leb y 65535) (eqb o 3 && isNode t boolean x && leb y 65535))
@@ -62,9 +58,7 @@ rises c zero = true
 rises c (suc k) = ltb (part c k 0) (part c (suc k) 0)
 
 unfoldable pub codeFault : List ℕ → List ℕ → ℕ → ℕ
-unfolding fieldsFit rises
 codeFault t c k = cond (leb (part c k 0) 65534 && fieldsFit t (part c k 1) (part c k 2) (part c k 3) && rises c k) fine 13
 
 unfoldable pub codeRefusal : List ℕ → List ℕ → Option Refusal
-unfolding wholeCode codeFault refuse refuseLowest _orElse_
 codeRefusal t c = refuse (not (wholeCode c)) 13 0 orElse refuseLowest (codeFault t c) (instructions c)

@@ -27,7 +27,6 @@ size (while b sₜ) = size sₜ + 2
 
 -- 01, "Compilation at start label s": the code, "Instructions stand in label order."
 unfoldable pub compile : Stm → ℕ → Code
-unfolding size
 compile skip ℓ = []
 compile (assign x a) ℓ = (ℓ, x ≔ a) ∷ []
 compile (seq s₀ s₁) ℓ = compile s₀ ℓ ++ compile s₁ (ℓ + size s₀)

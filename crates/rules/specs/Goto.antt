@@ -65,6 +65,5 @@ nextStore M (ifnot b m) σ = σ
 
 -- finished at a label, with the fuel left; or out of fuel at a label
 unfoldable pub run : Meaning → Code → ℕ → ℕ → Store → Halted
-unfolding nextLabel nextStore
 run M c zero ℓ σ = elim (fetch c ℓ) [ none ↦ finished ℓ σ zero | some i ↦ out ℓ σ ]
 run M c (suc n) ℓ σ = elim (fetch c ℓ) [ none ↦ finished ℓ σ (suc n) | some i ↦ run M c n (nextLabel M i ℓ σ) (nextStore M i σ) ]

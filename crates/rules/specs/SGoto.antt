@@ -23,7 +23,6 @@ Dom (sc₀ ⊕ sc₁) m = Dom sc₀ m ⊎ Dom sc₁ m
 
 -- the labels of all instructions are different
 unfoldable pub WellformedS : SCode → Type 0
-unfolding Dom
 WellformedS (single ℓ i) = Unit {0}
 WellformedS 𝟎 = Unit {0}
 WellformedS (sc₀ ⊕ sc₁) = WellformedS sc₀ × WellformedS sc₁ × ((m : ℕ) → Dom sc₀ m → Dom sc₁ m → ⊥)

@@ -42,7 +42,6 @@ kinds =
     ∷ (32, skip) ∷ (33, assign) ∷ (34, sequence) ∷ (35, if) ∷ (36, while) ∷ []
 
 unfoldable pub kindOf : ℕ → Kind
-unfolding fetch
 kindOf k = elim (fetch kinds k) [ some kind ↦ kind | none ↦ unknown ]
 
 abbrev pub kindAt : List ℕ → ℕ → Kind
@@ -128,16 +127,13 @@ treeBy while p q r low = stm (Stm.while p (stmOf (low q)))
 treeBy unknown p q r low = no-tree
 
 unfoldable pub treeAt : List ℕ → ℕ → Tree
-unfolding treeBy kindOf
 treeAt t = at no-tree (λ n low. treeBy (kindAt t n) (field t n 1) (field t n 2) (field t n 3) low)
 
 -- what the expression nodes mean, and the statement of the whole table
 unfoldable pub meaning : List ℕ → Meaning
-unfolding treeAt
 meaning t = record { arith = λ n σ. valueIn (arithOf (treeAt t n)) σ; holds = λ n σ. truthIn (booleOf (treeAt t n)) σ }
 
 unfoldable pub program : List ℕ → Stm
-unfolding treeAt
 program t = stmOf (treeAt t (root t))
 
 -- ---- refusals 1 to 9
@@ -148,7 +144,6 @@ wholeTable t = eqb (length t % 4) 0 && ltb 0 (length t) && leb (length t) 4096
 
 -- 3, 4, 5 or 6 for one word of node n
 unfoldable pub wordFault : List ℕ → ℕ → Slot → ℕ → ℕ
-unfolding kindOf rowOf
 wordFault t n unused w = cond (eqb w 0) fine 3
 wordFault t n any w = fine
 wordFault t n var w = cond (ltb w 32) fine 4
@@ -156,7 +151,6 @@ wordFault t n (child c) w = cond (ltb w n) (cond (isClass t c w) fine 6) 5
 
 -- "the lowest number at a node first"
 unfoldable pub nodeFault : List ℕ → ℕ → ℕ
-unfolding kindOf rowOf wordFault
 nodeFault t n =
     cond (isClass t no-class n) 2
     (min (wordFault t n (rowAt t n .p) (field t n 1))
@@ -170,7 +164,6 @@ childIn var w = []
 childIn (child c) w = w ∷ []
 
 unfoldable pub children : List ℕ → ℕ → List ℕ
-unfolding kindOf rowOf childIn
 children t n = childIn (rowAt t n .p) (field t n 1) ++ childIn (rowAt t n .q) (field t n 2) ++ childIn (rowAt t n .r) (field t n 3)
 
 unfoldable pub occurs : ℕ → List ℕ → ℕ
@@ -179,7 +172,6 @@ occurs k (x ∷ xs) = cond (eqb k x) 1 0 + occurs k xs
 
 -- "Every node but the root is a child exactly once (named twice by one parent counts as twice)."
 unfoldable pub onceFault : List ℕ → ℕ → ℕ
-unfolding joined children occurs
 onceFault t k = cond (eqb (occurs k (joined (children t) (nodes t))) 1) fine 8
 
 -- "Depth is 1 for a node without children, otherwise one more than its deepest child"
@@ -188,12 +180,10 @@ deepest depth [] = 0
 deepest depth (k ∷ ks) = max (depth k) (deepest depth ks)
 
 unfoldable pub depthAt : List ℕ → ℕ → ℕ
-unfolding children deepest
 depthAt t = at 0 (λ n low. suc (deepest low (children t n)))
 
 -- "Numbers 2 to 6 go node by node from 0 … Otherwise the lowest number wins."
 unfoldable pub tableRefusal : List ℕ → Option Refusal
-unfolding wholeTable nodeFault onceFault depthAt refuse refuseLowest _orElse_
 tableRefusal t =
     refuse (not (wholeTable t)) 1 0
     orElse refuseLowest (nodeFault t) (nodes t)

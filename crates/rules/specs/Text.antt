@@ -22,13 +22,11 @@ digitValue b = cond (ltb b 58) (b - 48) (b - 87)
 
 -- v as n digits, "highest first"
 unfoldable pub digitsOf : ℕ → ℕ → List ℕ
-unfolding digit
 digitsOf zero v = []
 digitsOf (suc n) v = digitsOf n (v / 16) ++ (digit (v % 16) ∷ [])
 
 -- the number that digits write, after those that write v
 unfoldable pub numberOf : ℕ → List ℕ → ℕ
-unfolding digitValue
 numberOf v [] = v
 numberOf v (b ∷ bs) = numberOf (16 * v + digitValue b) bs
 
@@ -36,11 +34,9 @@ numberOf v (b ∷ bs) = numberOf (16 * v + digitValue b) bs
 
 -- "each as eight lower-case hexadecimal digits … then one newline (byte 10)"
 unfoldable pub lineOf : ℕ → List ℕ → ℕ → List ℕ
-unfolding joined digitsOf
 lineOf w ws k = joined (λ i. digitsOf 8 (getD ws (w * k + i) 0)) w ++ (10 ∷ [])
 
 unfoldable pub textOf : ℕ → List ℕ → List ℕ
-unfolding lineOf
 textOf w ws = joined (lineOf w ws) (length ws / w)
 
 -- ---- text to words
@@ -57,25 +53,21 @@ abbrev pub byteAt : ℕ → List ℕ → ℕ → ℕ → ℕ
 byteAt w b k i = getD b (lineLength w * k + i) 0
 
 unfoldable pub wordsOfText : ℕ → List ℕ → List ℕ
-unfolding joined numberOf
 wordsOfText w b = joined (λ k. joined (λ i. numberOf 0 (take 8 (drop (lineLength w * k + 8 * i) b)) ∷ []) w) (lines w b)
 
 -- ---- refusals 14 and 15
 
 -- "text line not 32 digits and newline, or a 1,025th line"
 unfoldable pub lineFault : ℕ → List ℕ → ℕ → ℕ
-unfolding every isDigit
 lineFault w b k =
     cond (ltb k 1024 && leb (lineLength w * k + lineLength w) (length b)
     && every (λ i. isDigit (byteAt w b k i)) (8 * w) && eqb (byteAt w b k (8 * w)) 10) fine 14
 
 unfoldable pub readRefusal : ℕ → List ℕ → ℕ → Option Refusal
-unfolding lineFault refuse refuseLowest _orElse_
 readRefusal w b room = refuseLowest (lineFault w b) (lines w b) orElse refuse (ltb room (w * lines w b)) 15 0
 
 -- "in writing, words not whole frames or over 4,096", at "the lesser of 1,024 and the whole frames"
 unfoldable pub writeRefusal : ℕ → List ℕ → ℕ → Option Refusal
-unfolding refuse _orElse_
 writeRefusal w ws room =
     refuse (not (eqb (length ws % w) 0 && leb (length ws) (w * 1024))) 14 (min 1024 (length ws / w))
     orElse refuse (ltb room (lineLength w * (length ws / w))) 15 0

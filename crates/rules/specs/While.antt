@@ -78,7 +78,6 @@ spend next σ (suc n) = next n
 
 -- passes of a loop; each pass spends a unit, so as many passes as fuel, and one test more, are enough
 unfoldable pub passes : (Store → Bool) → (ℕ → Store → Outcome) → ℕ → ℕ → Store → Outcome
-unfolding andThen spend
 passes test body zero n σ = stop σ
 passes test body (suc g) n σ =
     spend (λ n₁. elim (test σ) [
@@ -87,7 +86,6 @@ passes test body (suc g) n σ =
     ]) σ n
 
 unfoldable pub exec : Meaning → Stm → ℕ → Store → Outcome
-unfolding andThen spend passes
 exec M skip n σ = done σ n
 exec M (assign x a) n σ = spend (done (assigned M x a σ)) σ n
 exec M (seq s₀ s₁) n σ = andThen (exec M s₀ n σ) (λ σ₁ m. exec M s₁ m σ₁)
