@@ -1,0 +1,4 @@
+-- The theory of the rules: what the definitions decide, and that compiled code follows its source.
+pub mod WhileLaws
+pub mod GotoLaws
+pub mod CompilationLaws

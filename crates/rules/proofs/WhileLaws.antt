@@ -1,0 +1,195 @@
+-- The source run within fuel decides the While rules: where it is done there is an evaluation whose count is the fuel spent, where it
+-- stops the run is unfinished, and every evaluation is found by any run that has the fuel for it. Evaluation is deterministic, in store
+-- and count (Lemma 22). Assumes nothing.
+use mathlib.Core.Path.{_≡_, refl, sym, ap, subst, _∙_}
+use Prim.Native.Nat.{ℕ, zero, suc, _+_, _-_, _≤_, _<_}
+use native.Mathlib.Omega.{arith}
+use mathlib.Core.Bool.{Bool, true, false}
+use mathlib.Core.Logic.{_⊎_, inl, inr}
+use Rattle.rules.specs.Expression.{Store}
+use Rattle.rules.specs.While.{Stm, skip, assign, seq, if, while, Meaning, Evaluates, assign-ns, skip-ns, comp-ns, if-tt-ns, if-ff-ns, while-tt-ns, while-ff-ns, count, Unfinished, at-assign, in-first, in-second, at-test, in-then, at-then-end, in-else, at-while-test, in-body, at-pass-end, in-next-pass, Outcome, done, stop, andThen, spend, passes, exec}
+
+-- what an outcome of a run with fuel n says of the rules
+pub data Says (M : Meaning) (s : Stm) (n : ℕ) (σ : Store) : Outcome → Type 0 where
+  evaluated : {σ′ : Store} (left : ℕ) (d : Evaluates M s σ σ′) → count d + left ≡ n → Says M s n σ (done σ′ left)
+  unfinished : {σ′ : Store} → Unfinished M s σ n σ′ → Says M s n σ (stop σ′)
+
+-- no more fuel is left than there was
+pub data AtMost (n : ℕ) : Outcome → Type 0 where
+  some-left : {σ : Store} (left : ℕ) → left ≤ n → AtMost n (done σ left)
+  none-left : {σ : Store} → AtMost n (stop σ)
+
+-- the While rules give an evaluation from σ whose count is at most n
+abbrev pub EvaluatesWithin : Meaning → Stm → Store → ℕ → Type 0
+EvaluatesWithin M s σ n = (σ′ : Store) × (d : Evaluates M s σ σ′) × (count d ≤ n)
+
+module _ (M : Meaning) where
+  pub at-most : {s : Stm} {n : ℕ} {σ : Store} {o : Outcome} → Says M s n σ o → AtMost n o
+  at-most (evaluated left d e) = some-left left (omega arith)
+  at-most (unfinished u) = none-left
+
+  after : {s : Stm} {σ σ′ : Store} {n m : ℕ} → n ≡ m → Unfinished M s σ n σ′ → Says M s m σ (stop σ′)
+  after {s} {σ} {σ′} e u = unfinished (subst (λ (i : ℕ). Unfinished M s σ i σ′) e u)
+
+  -- one lemma for each way to join two outcomes
+
+  in-sequence : {s₀ s₁ : Stm} {n m : ℕ} {σ σ″ : Store} (d : Evaluates M s₀ σ σ″) → count d + m ≡ n → {o : Outcome} → Says M s₁ m σ″ o → Says M (seq s₀ s₁) n σ o
+  unfolding count
+  in-sequence d e (evaluated left d₁ e₁) = evaluated left (comp-ns d d₁) (omega arith)
+  in-sequence d e (unfinished u) = after e (in-second d u)
+
+  seq-says : (s₀ s₁ : Stm) (n : ℕ) (σ : Store) → ((m : ℕ) (σ₁ : Store) → Says M s₁ m σ₁ (exec M s₁ m σ₁)) → (o : Outcome) → Says M s₀ n σ o → Says M (seq s₀ s₁) n σ (andThen o (λ σ₁ m. exec M s₁ m σ₁))
+  unfolding andThen
+  seq-says s₀ s₁ n σ second (done σ₁ m) (evaluated left d e) = in-sequence d e (second m σ₁)
+  seq-says s₀ s₁ n σ second (stop σ₁) (unfinished u) = unfinished (in-first u)
+
+  then-says : (b : ℕ) (sₜ s : Stm) (n : ℕ) (σ : Store) → M .holds b σ ≡ true → (o : Outcome) → Says M sₜ n σ o → Says M (if b sₜ s) (suc n) σ (andThen o (λ σ₁ j. spend (done σ₁) σ₁ j))
+  unfolding andThen spend count
+  then-says b sₜ s n σ h (done σ₁ zero) (evaluated left d e) = after (omega arith) (at-then-end h d)
+  then-says b sₜ s n σ h (done σ₁ (suc m)) (evaluated left d e) = evaluated m (if-tt-ns h d) (omega arith)
+  then-says b sₜ s n σ h (stop σ₁) (unfinished u) = after (omega arith) (in-then h u)
+
+  else-says : (b : ℕ) (sₜ s : Stm) (n : ℕ) (σ : Store) → M .holds b σ ≡ false → {o : Outcome} → Says M s n σ o → Says M (if b sₜ s) (suc n) σ o
+  unfolding count
+  else-says b sₜ s n σ h (evaluated left d e) = evaluated left (if-ff-ns h d) (omega arith)
+  else-says b sₜ s n σ h (unfinished u) = after (omega arith) (in-else h u)
+
+  if-says : (b : ℕ) (sₜ s : Stm) (n : ℕ) (σ : Store) (v : Bool) → M .holds b σ ≡ v → {x y : Outcome}
+      → (M .holds b σ ≡ true → Says M (if b sₜ s) (suc n) σ x) → (M .holds b σ ≡ false → Says M (if b sₜ s) (suc n) σ y)
+      → Says M (if b sₜ s) (suc n) σ (elim v [ true ↦ x | false ↦ y ])
+  if-says b sₜ s n σ true h t f = t h
+  if-says b sₜ s n σ false h t f = f h
+
+  next-pass-says : (b : ℕ) (sₜ : Stm) (n m : ℕ) (σ σ″ : Store) → M .holds b σ ≡ true → (d : Evaluates M sₜ σ σ″) → count d + suc m ≡ n → {o : Outcome} → Says M (while b sₜ) m σ″ o → Says M (while b sₜ) (suc n) σ o
+  unfolding count
+  next-pass-says b sₜ n m σ σ″ h d e (evaluated left d′ e′) = evaluated left (while-tt-ns h d d′) (omega arith)
+  next-pass-says b sₜ n m σ σ″ h d e (unfinished u) = after (omega arith) (in-next-pass h d u)
+
+  -- one pass, given what the passes after it say
+  pass-says : (b : ℕ) (sₜ : Stm) (g n : ℕ) (σ : Store) → n < g → ((m : ℕ) (σ₁ : Store) → m < g → Says M (while b sₜ) m σ₁ (passes (M .holds b) (exec M sₜ) g m σ₁))
+      → M .holds b σ ≡ true → (o : Outcome) → Says M sₜ n σ o
+      → Says M (while b sₜ) (suc n) σ (andThen o (λ σ₁ n₂. spend (λ n₃. passes (M .holds b) (exec M sₜ) g n₃ σ₁) σ₁ n₂))
+  unfolding andThen spend
+  pass-says b sₜ g n σ l later h (done σ₁ zero) (evaluated left d e) = after (omega arith) (at-pass-end h d)
+  pass-says b sₜ g n σ l later h (done σ₁ (suc m)) (evaluated left d e) = next-pass-says b sₜ n m σ σ₁ h d e (later m σ₁ (omega arith))
+  pass-says b sₜ g n σ l later h (stop σ₁) (unfinished u) = after (omega arith) (in-body h u)
+
+  while-says : (b : ℕ) (sₜ : Stm) (n : ℕ) (σ : Store) {o : Outcome} (v : Bool) → M .holds b σ ≡ v → (M .holds b σ ≡ true → Says M (while b sₜ) (suc n) σ o) → Says M (while b sₜ) (suc n) σ (elim v [ true ↦ o | false ↦ done σ n ])
+  unfolding count
+  while-says b sₜ n σ true h pass = pass h
+  while-says b sₜ n σ false h pass = evaluated n (while-ff-ns h) (omega arith)
+
+  passes-say : (b : ℕ) (sₜ : Stm) → ((m : ℕ) (σ : Store) → Says M sₜ m σ (exec M sₜ m σ)) → (g n : ℕ) (σ : Store) → n < g → Says M (while b sₜ) n σ (passes (M .holds b) (exec M sₜ) g n σ)
+  unfolding passes spend
+  passes-say b sₜ body zero n σ l = absurd (omega arith)
+  passes-say b sₜ body (suc g) zero σ l = unfinished at-while-test
+  passes-say b sₜ body (suc g) (suc n) σ l =
+      while-says b sₜ n σ (M .holds b σ) refl
+      (λ h. pass-says b sₜ g n σ (omega arith) (λ m σ₁ k. passes-say b sₜ body g m σ₁ k) h (exec M sₜ n σ) (body n σ))
+
+  -- the outcome of a run says what it says
+  pub says : (s : Stm) (n : ℕ) (σ : Store) → Says M s n σ (exec M s n σ)
+  unfolding exec spend count
+  says skip n σ = evaluated n skip-ns (omega arith)
+  says (assign x a) zero σ = unfinished at-assign
+  says (assign x a) (suc n) σ = evaluated n assign-ns (omega arith)
+  says (seq s₀ s₁) n σ = seq-says s₀ s₁ n σ (says s₁) (exec M s₀ n σ) (says s₀ n σ)
+  says (if b sₜ s) zero σ = unfinished at-test
+  says (if b sₜ s) (suc n) σ =
+      if-says b sₜ s n σ (M .holds b σ) refl
+      (λ h. then-says b sₜ s n σ h (exec M sₜ n σ) (says sₜ n σ)) (λ h. else-says b sₜ s n σ h (says s n σ))
+  says (while b sₜ) n σ = passes-say b sₜ (says sₜ) (suc n) n σ (omega arith)
+
+  -- ---- more passes than fuel change nothing
+
+  same-test : (v : Bool) (z : Outcome) {x y : Outcome} → x ≡ y → _≡_ {A = Outcome} (elim v [ true ↦ x | false ↦ z ]) (elim v [ true ↦ y | false ↦ z ])
+  same-test true z e = e
+  same-test false z e = refl
+
+  same-pass : (b : ℕ) (sₜ : Stm) (g h n : ℕ) (σ : Store) → ((m : ℕ) (σ₁ : Store) → m < n → passes (M .holds b) (exec M sₜ) g m σ₁ ≡ passes (M .holds b) (exec M sₜ) h m σ₁)
+      → (o : Outcome) → AtMost n o
+      → andThen o (λ σ₁ n₂. spend (λ n₃. passes (M .holds b) (exec M sₜ) g n₃ σ₁) σ₁ n₂) ≡ andThen o (λ σ₁ n₂. spend (λ n₃. passes (M .holds b) (exec M sₜ) h n₃ σ₁) σ₁ n₂)
+  unfolding andThen spend
+  same-pass b sₜ g h n σ same (done σ₁ zero) (some-left left l) = refl
+  same-pass b sₜ g h n σ same (done σ₁ (suc m)) (some-left left l) = same m σ₁ (omega arith)
+  same-pass b sₜ g h n σ same (stop σ₁) none-left = refl
+
+  more-passes : (b : ℕ) (sₜ : Stm) (g h n : ℕ) (σ : Store) → n < g → n < h → passes (M .holds b) (exec M sₜ) g n σ ≡ passes (M .holds b) (exec M sₜ) h n σ
+  unfolding passes spend
+  more-passes b sₜ zero h n σ p q = absurd (omega arith)
+  more-passes b sₜ (suc g) zero n σ p q = absurd (omega arith)
+  more-passes b sₜ (suc g) (suc h) zero σ p q = refl
+  more-passes b sₜ (suc g) (suc h) (suc n) σ p q =
+      same-test (M .holds b σ) (done σ n)
+      (same-pass b sₜ g h n σ (λ m σ₁ l. more-passes b sₜ g h m σ₁ (omega arith) (omega arith)) (exec M sₜ n σ) (at-most (says sₜ n σ)))
+
+  -- an evaluation is found by any run that has the fuel for it
+  pub complete : {s : Stm} {σ σ′ : Store} (d : Evaluates M s σ σ′) (m : ℕ) → exec M s (count d + m) σ ≡ done σ′ m
+  unfolding exec spend andThen passes count
+  complete {σ} skip-ns m = ap (done σ) (omega arith)
+  complete assign-ns m = rw (let q : 1 + m ≡ suc m = omega arith in q) refl
+  complete (comp-ns d e) m = rw (let q : count d + count e + m ≡ count d + (count e + m) = omega arith in q, complete d (count e + m)) (complete e m)
+  complete (if-tt-ns h d) m = rw (let q : 1 + count d + 1 + m ≡ suc (count d + suc m) = omega arith in q, h, complete d (suc m)) refl
+  complete (if-ff-ns h d) m = rw (let q : 1 + count d + m ≡ suc (count d + m) = omega arith in q, h) (complete d m)
+  complete (while-tt-ns {b = b} {sₜ = sₜ} {σ″ = σ″} h d e) m =
+      rw (let q : 1 + count d + 1 + count e + m ≡ suc (count d + suc (count e + m)) = omega arith in q, h, complete d (suc (count e + m)))
+      (more-passes b sₜ (1 + count d + 1 + count e + m) (suc (count e + m)) (count e + m) σ″ (omega arith) (omega arith) ∙ complete e m)
+  complete (while-ff-ns h) m = rw (let q : 1 + m ≡ suc m = omega arith in q, h) refl
+
+  -- an unfinished run is found by a run with just its units
+  pub stops : {s : Stm} {σ σ′ : Store} {n : ℕ} → Unfinished M s σ n σ′ → exec M s n σ ≡ stop σ′
+  unfolding exec spend andThen passes
+  stops at-assign = refl
+  stops (in-first u) = rw (stops u) refl
+  stops (in-second {n = n} d u) = rw (complete d n) (stops u)
+  stops at-test = refl
+  stops (in-then {n = n} h u) = rw (let q : 1 + n ≡ suc n = omega arith in q, h, stops u) refl
+  stops (at-then-end h d) = rw (let q : 1 + count d ≡ suc (count d + 0) = omega arith in q, h, complete d 0) refl
+  stops (in-else {n = n} h u) = rw (let q : 1 + n ≡ suc n = omega arith in q, h) (stops u)
+  stops at-while-test = refl
+  stops (in-body {n = n} h u) = rw (let q : 1 + n ≡ suc n = omega arith in q, h, stops u) refl
+  stops (at-pass-end h d) = rw (let q : 1 + count d ≡ suc (count d + 0) = omega arith in q, h, complete d 0) refl
+  stops (in-next-pass {b = b} {sₜ = sₜ} {σ″ = σ″} {n = n} h d u) =
+      rw (let q : 1 + count d + 1 + n ≡ suc (count d + suc n) = omega arith in q, h, complete d (suc n))
+      (more-passes b sₜ (1 + count d + 1 + n) (suc n) n σ″ (omega arith) (omega arith) ∙ stops u)
+
+  -- ---- what the run decides
+
+  pub finds : {s : Stm} {σ σ′ : Store} (d : Evaluates M s σ σ′) (n : ℕ) → count d ≤ n → exec M s n σ ≡ done σ′ (n - count d)
+  finds {s} {σ} {σ′} d n l =
+      let q : count d + (n - count d) ≡ n = omega arith in
+      subst (λ (i : ℕ). exec M s i σ ≡ done σ′ (n - count d)) q (complete d (n - count d))
+
+  -- Lemma 22, in store and count
+  pub deterministic : {s : Stm} {σ σ′ σ″ : Store} (d : Evaluates M s σ σ′) (e : Evaluates M s σ σ″) → (σ′ ≡ σ″) × (count d ≡ count e)
+  deterministic {s} {σ} {σ′} {σ″} d e =
+      let swap : count e + count d ≡ count d + count e = omega arith in
+      let other : exec M s (count d + count e) σ ≡ done σ″ (count d) = rw swap at (complete e (count d)) in
+      let same : done σ′ (count e) ≡ done σ″ (count d) = sym (complete d (count e)) ∙ other in
+      (cc, cc)
+
+  -- the run with fuel n decides: it is done with σ′ and the fuel left exactly if there is an evaluation whose count is the rest
+  pub record Decides (s : Stm) (n : ℕ) (σ : Store) : Type 0 where
+    pub done-if : {σ′ : Store} (d : Evaluates M s σ σ′) → count d ≤ n → exec M s n σ ≡ done σ′ (n - count d)
+    pub done-only-if : {σ′ : Store} {left : ℕ} → exec M s n σ ≡ done σ′ left → (d : Evaluates M s σ σ′) × (count d + left ≡ n)
+    pub stop-if : (EvaluatesWithin M s σ n → ⊥) → (σ′ : Store) × (exec M s n σ ≡ stop σ′) × Unfinished M s σ n σ′
+    pub stop-only-if : {σ′ : Store} → exec M s n σ ≡ stop σ′ → EvaluatesWithin M s σ n → ⊥
+
+  was-done : {s : Stm} {n : ℕ} {σ : Store} {o : Outcome} → Says M s n σ o → {σ′ : Store} {left : ℕ} → o ≡ done σ′ left → (d : Evaluates M s σ σ′) × (count d + left ≡ n)
+  was-done {s} {n} {σ} (evaluated {σ′ = σ₁} m d e) {σ′} {left} q =
+      let stores : σ₁ ≡ σ′ = cc in
+      let fuel : m ≡ left = cc in
+      subst (λ (z : Store). (d : Evaluates M s σ z) × (count d + left ≡ n)) stores (d, omega arith)
+  was-done (unfinished {σ′ = σ₁} u) q = let z : _≡_ {A = ℕ} 0 1 = cc in absurd (omega arith)
+
+  was-stopped : {s : Stm} {n : ℕ} {σ : Store} (o : Outcome) → Says M s n σ o → (EvaluatesWithin M s σ n → ⊥) → (σ′ : Store) × (o ≡ stop σ′) × Unfinished M s σ n σ′
+  was-stopped (done σ₁ m) (evaluated left d e) no-eval = absurd (no-eval (σ₁, d, omega arith))
+  was-stopped (stop σ₁) (unfinished u) no-eval = (σ₁, refl, u)
+
+  pub decides : (s : Stm) (n : ℕ) (σ : Store) → Decides s n σ
+  decides s n σ = record {
+      done-if = λ d l. finds d n l;
+      done-only-if = λ q. was-done (says s n σ) q;
+      stop-if = λ no-eval. was-stopped (exec M s n σ) (says s n σ) no-eval;
+      stop-only-if = λ q within. let e = finds (within .1) n (within .2) in let z : _≡_ {A = ℕ} 0 1 = cc in omega arith
+    }
