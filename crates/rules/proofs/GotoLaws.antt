@@ -100,7 +100,7 @@ module _ (M : Meaning) where
   pub step-deterministic : {c : Code} → Wellformed c → {ℓ ℓ′ ℓ″ : ℕ} {σ σ′ σ″ : Store} → Step M c ℓ σ ℓ′ σ′ → Step M c ℓ σ ℓ″ σ″ → (ℓ′ ≡ ℓ″) × (σ′ ≡ σ″)
   step-deterministic wf a b = same-taken wf (taken a) (taken b)
 
-  bears : {c : Code} {ℓ ℓ′ : ℕ} {σ σ′ : Store} → Takes c ℓ σ ℓ′ σ′ → InDom c ℓ
+  pub bears : {c : Code} {ℓ ℓ′ : ℕ} {σ σ′ : Store} → Takes c ℓ σ ℓ′ σ′ → InDom c ℓ
   bears (takes i h p q) = (i, h)
 
   -- Lemma 2 (stuck states)
@@ -110,7 +110,7 @@ module _ (M : Meaning) where
   step-by : {c : Code} {ℓ ℓ′ : ℕ} {σ σ′ : Store} (i : Instr) → (ℓ, i) ∈ c → ℓ′ ≡ nextLabel M i ℓ σ → σ′ ≡ nextStore M i σ → Step M c ℓ σ ℓ′ σ′
   step-by {σ = σ} i h p q = rw (p, q) (can-step σ i h)
 
-  extend : {c₀ c₁ : Code} → ((ℓ : ℕ) (i : Instr) → (ℓ, i) ∈ c₀ → (ℓ, i) ∈ c₁) → {ℓ ℓ′ : ℕ} {σ σ′ : Store} → Takes c₀ ℓ σ ℓ′ σ′ → Step M c₁ ℓ σ ℓ′ σ′
+  pub extend : {c₀ c₁ : Code} → ((ℓ : ℕ) (i : Instr) → (ℓ, i) ∈ c₀ → (ℓ, i) ∈ c₁) → {ℓ ℓ′ : ℕ} {σ σ′ : Store} → Takes c₀ ℓ σ ℓ′ σ′ → Step M c₁ ℓ σ ℓ′ σ′
   extend more {ℓ = ℓ} (takes i h p q) = step-by i (more ℓ i h) p q
 
   restrict : {c₀ c₁ : Code} → ((ℓ : ℕ) (i : Instr) → (ℓ, i) ∈ c₀ → (ℓ, i) ∈ c₁) → Wellformed c₁ → {ℓ ℓ′ : ℕ} {σ σ′ : Store} → InDom c₀ ℓ → Takes c₁ ℓ σ ℓ′ σ′ → Step M c₀ ℓ σ ℓ′ σ′
@@ -174,3 +174,35 @@ module _ (M : Meaning) where
           ∙ run-step c (n + m) ℓ σ i (fetches c wf ℓ i h)
           ∙ ap₂ (λ (x : ℕ) (y : Store). run M c (n + m) x y) (sym p) (sym q)
           ∙ e
+
+  -- ---- the same, for a reader of answers: the steps reported are the published steps taken
+
+  pub record Finished (c : Code) (n ℓ : ℕ) (σ : Store) (ℓ′ : ℕ) (σ′ : Store) (left : ℕ) : Type 0 where
+    pub steps : Steps M c (n - left) ℓ σ ℓ′ σ′
+    pub within : left ≤ n
+    pub stuck : InDom c ℓ′ → ⊥
+
+  pub record RunOut (c : Code) (n ℓ : ℕ) (σ : Store) (ℓ′ : ℕ) (σ′ : Store) : Type 0 where
+    pub steps : Steps M c n ℓ σ ℓ′ σ′
+    pub goes-on : InDom c ℓ′
+
+  same-steps : {c : Code} {k n ℓ ℓ₁ ℓ′ : ℕ} {σ σ₁ σ′ : Store} → k ≡ n → ℓ₁ ≡ ℓ′ → σ₁ ≡ σ′ → Steps M c k ℓ σ ℓ₁ σ₁ → Steps M c n ℓ σ ℓ′ σ′
+  same-steps p q r s = rw (← p, ← q, ← r) s
+
+  finished-by : {c : Code} {n ℓ : ℕ} {σ : Store} {h : Halted} → RunSays c n ℓ σ h → {ℓ′ : ℕ} {σ′ : Store} {left : ℕ} → h ≡ finished ℓ′ σ′ left → Finished c n ℓ σ ℓ′ σ′ left
+  finished-by {c} {n} (finishes {ℓ′ = ℓ₁} {σ′ = σ₁} k m r e f) {ℓ′} {σ′} {left} q =
+      let label : ℓ₁ ≡ ℓ′ = cc in let store : σ₁ ≡ σ′ = cc in let fuel : m ≡ left = cc in let taken : k ≡ n - left = omega arith in
+      record { steps = same-steps taken label store r; within = omega arith; stuck = unfetched c ℓ′ (ap (fetch c) (sym label) ∙ f) }
+  finished-by (runs-out {ℓ′ = ℓ₁} {σ′ = σ₁} i r f) q = let z : _≡_ {A = ℕ} 0 1 = cc in absurd (omega arith)
+
+  out-by : {c : Code} {n ℓ : ℕ} {σ : Store} {h : Halted} → RunSays c n ℓ σ h → {ℓ′ : ℕ} {σ′ : Store} → h ≡ out ℓ′ σ′ → RunOut c n ℓ σ ℓ′ σ′
+  out-by (finishes {ℓ′ = ℓ₁} {σ′ = σ₁} k m r e f) q = let z : _≡_ {A = ℕ} 0 1 = cc in absurd (omega arith)
+  out-by {c} (runs-out {ℓ′ = ℓ₁} {σ′ = σ₁} i r f) {ℓ′} {σ′} q =
+      let label : ℓ₁ ≡ ℓ′ = cc in let store : σ₁ ≡ σ′ = cc in
+      record { steps = same-steps refl label store r; goes-on = (i, fetched-in c ℓ′ i (ap (fetch c) (sym label) ∙ f)) }
+
+  pub finished-steps : (c : Code) (n ℓ : ℕ) (σ : Store) → {ℓ′ : ℕ} {σ′ : Store} {left : ℕ} → run M c n ℓ σ ≡ finished ℓ′ σ′ left → Finished c n ℓ σ ℓ′ σ′ left
+  finished-steps c n ℓ σ q = finished-by (run-says c n ℓ σ) q
+
+  pub out-steps : (c : Code) (n ℓ : ℕ) (σ : Store) → {ℓ′ : ℕ} {σ′ : Store} → run M c n ℓ σ ≡ out ℓ′ σ′ → RunOut c n ℓ σ ℓ′ σ′
+  out-steps c n ℓ σ q = out-by (run-says c n ℓ σ) q

@@ -2,3 +2,5 @@
 pub mod WhileLaws
 pub mod GotoLaws
 pub mod CompilationLaws
+pub mod Simulation
+pub mod SGotoLaws
