@@ -4,3 +4,4 @@ pub mod GotoLaws
 pub mod CompilationLaws
 pub mod Simulation
 pub mod SGotoLaws
+pub mod WorkedRuns
