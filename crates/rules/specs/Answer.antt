@@ -39,3 +39,12 @@ codeRunWords (CodeRun.Refused r) = refused r
 unfoldable pub textWords : Text → List ℕ
 textWords (Text.Done amount) = eight 0 0 0 0 amount
 textWords (Text.Refused r) = refused r
+
+-- how a call ended: its answer, and what the lent buffer holds then. "A refusal alters nothing lent; success alters only the words or
+-- bytes it writes, from the front of the room on, and a run only the store."
+pub record Ended (Answer Word : Type 0) : Type 0 where
+  pub answer : Answer
+  pub after : List Word
+
+abbrev pub ended : {Answer Word : Type 0} → Answer → List Word → Ended Answer Word
+ended answer after = record { answer = answer; after = after }
