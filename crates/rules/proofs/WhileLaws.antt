@@ -28,6 +28,10 @@ module _ (M : Meaning) where
   at-most (evaluated left d e) = some-left left (omega arith)
   at-most (unfinished u) = none-left
 
+  left-over : {n m : ℕ} {σ : Store} {o : Outcome} → o ≡ done σ m → AtMost n o → m ≤ n
+  left-over {n} {m} e (some-left {σ = σ₁} left l) = let fuel : left ≡ m = cc in omega arith
+  left-over e none-left = let z : _≡_ {A = ℕ} 0 1 = cc in absurd (omega arith)
+
   after : {s : Stm} {σ σ′ : Store} {n m : ℕ} → n ≡ m → Unfinished M s σ n σ′ → Says M s m σ (stop σ′)
   after {s} {σ} {σ′} e u = unfinished (subst (λ (i : ℕ). Unfinished M s σ i σ′) e u)
 
@@ -122,6 +126,29 @@ module _ (M : Meaning) where
   more-passes b sₜ (suc g) (suc h) (suc n) σ p q =
       same-test (M .holds b σ) (done σ n)
       (same-pass b sₜ g h n σ (λ m σ₁ l. more-passes b sₜ g h m σ₁ (omega arith) (omega arith)) (exec M sₜ n σ) (at-most (says sₜ n σ)))
+
+  -- ---- what a run of a loop does at its test, as a loop of code goes
+
+  module _ (b : ℕ) (sₜ : Stm) (σ : Store) where
+    pub while-spent : exec M (while b sₜ) zero σ ≡ stop σ
+    unfolding exec passes spend
+    while-spent = refl
+
+    pub while-ends : (n : ℕ) → M .holds b σ ≡ false → exec M (while b sₜ) (suc n) σ ≡ done σ n
+    unfolding exec passes spend
+    while-ends n h = rw h
+
+    pub while-stops : (n : ℕ) {σ₁ : Store} → M .holds b σ ≡ true → exec M sₜ n σ ≡ stop σ₁ → exec M (while b sₜ) (suc n) σ ≡ stop σ₁
+    unfolding exec passes spend andThen
+    while-stops n h e = rw (h, e)
+
+    pub while-owes : (n : ℕ) {σ₁ : Store} → M .holds b σ ≡ true → exec M sₜ n σ ≡ done σ₁ zero → exec M (while b sₜ) (suc n) σ ≡ stop σ₁
+    unfolding exec passes spend andThen
+    while-owes n h e = rw (h, e)
+
+    pub while-again : (n m : ℕ) {σ₁ : Store} → M .holds b σ ≡ true → exec M sₜ n σ ≡ done σ₁ (suc m) → exec M (while b sₜ) (suc n) σ ≡ exec M (while b sₜ) m σ₁
+    unfolding exec passes spend andThen
+    while-again n m {σ₁} h e = rw (h, e) (more-passes b sₜ (suc n) (suc m) m σ₁ (omega (arith, left-over e (at-most (says sₜ n σ)))) (omega arith))
 
   -- an evaluation is found by any run that has the fuel for it
   pub complete : {s : Stm} {σ σ′ : Store} (d : Evaluates M s σ σ′) (m : ℕ) → exec M s (count d + m) σ ≡ done σ′ m
