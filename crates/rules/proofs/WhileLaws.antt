@@ -104,6 +104,10 @@ module _ (M : Meaning) where
       (λ h. then-says b sₜ s n σ h (exec M sₜ n σ) (says sₜ n σ)) (λ h. else-says b sₜ s n σ h (says s n σ))
   says (while b sₜ) n σ = passes-say b sₜ (says sₜ) (suc n) n σ (omega arith)
 
+  -- a run leaves no more fuel than it had
+  pub no-more-left : (s : Stm) (n : ℕ) (σ : Store) {m : ℕ} {σ′ : Store} → exec M s n σ ≡ done σ′ m → m ≤ n
+  no-more-left s n σ e = left-over e (at-most (says s n σ))
+
   -- ---- more passes than fuel change nothing
 
   same-test : (v : Bool) (z : Outcome) {x y : Outcome} → x ≡ y → _≡_ {A = Outcome} (elim v [ true ↦ x | false ↦ z ]) (elim v [ true ↦ y | false ↦ z ])
@@ -148,7 +152,7 @@ module _ (M : Meaning) where
 
     pub while-again : (n m : ℕ) {σ₁ : Store} → M .holds b σ ≡ true → exec M sₜ n σ ≡ done σ₁ (suc m) → exec M (while b sₜ) (suc n) σ ≡ exec M (while b sₜ) m σ₁
     unfolding exec passes spend andThen
-    while-again n m {σ₁} h e = rw (h, e) (more-passes b sₜ (suc n) (suc m) m σ₁ (omega (arith, left-over e (at-most (says sₜ n σ)))) (omega arith))
+    while-again n m {σ₁} h e = rw (h, e) (more-passes b sₜ (suc n) (suc m) m σ₁ (omega (arith, no-more-left sₜ n σ e)) (omega arith))
 
   -- an evaluation is found by any run that has the fuel for it
   pub complete : {s : Stm} {σ σ′ : Store} (d : Evaluates M s σ σ′) (m : ℕ) → exec M s (count d + m) σ ≡ done σ′ m
