@@ -107,9 +107,11 @@ unfolding From compile
 compile-from skip ℓ = tt
 compile-from (assign x a) ℓ = (refl, tt)
 compile-from (seq s₀ s₁) ℓ = from-append ℓ (compile s₀ ℓ) _ (compile-from s₀ ℓ) (from-label (compile s₁ (ℓ + size s₀)) (ap (λ (i : ℕ). ℓ + i) (sym (length-compile s₀ ℓ))) (compile-from s₁ (ℓ + size s₀)))
-compile-from (if b sₜ s) ℓ =
-    (refl, from-append (ℓ + 1) (compile sₜ (ℓ + 1)) _ (compile-from sₜ (ℓ + 1))
-    (ap (λ (i : ℕ). ℓ + 1 + i) (sym (length-compile sₜ (ℓ + 1))), from-label {ℓ = ℓ + 1 + size sₜ + 1} {m = ℓ + 1 + length (compile sₜ (ℓ + 1)) + 1} (compile s (ℓ + 1 + size sₜ + 1)) (omega (arith, length-compile sₜ (ℓ + 1))) (compile-from s (ℓ + 1 + size sₜ + 1))))
+compile-from (if b sₜ s) ℓ = (
+  refl,
+  from-append (ℓ + 1) (compile sₜ (ℓ + 1)) _ (compile-from sₜ (ℓ + 1))
+      (ap (λ (i : ℕ). ℓ + 1 + i) (sym (length-compile sₜ (ℓ + 1))), from-label {ℓ = ℓ + 1 + size sₜ + 1} {m = ℓ + 1 + length (compile sₜ (ℓ + 1)) + 1} (compile s (ℓ + 1 + size sₜ + 1)) (omega (arith, length-compile sₜ (ℓ + 1))) (compile-from s (ℓ + 1 + size sₜ + 1))),
+)
 compile-from (while b sₜ) ℓ =
     (refl, from-append (ℓ + 1) (compile sₜ (ℓ + 1)) _ (compile-from sₜ (ℓ + 1)) (ap (λ (i : ℕ). ℓ + 1 + i) (sym (length-compile sₜ (ℓ + 1))), tt))
 
@@ -146,9 +148,10 @@ from-dom ℓ (li ∷ c) f m p q = go (ltb ℓ m) refl (λ h. from-dom (ℓ + 1) 
 
 -- a compiled piece bears exactly the labels from its start up to its end
 pub compile-dom : (s : Stm) (ℓ m : ℕ) → InDom (compile s ℓ) m ↔ (ℓ ≤ m) × (m < ℓ + size s)
-compile-dom s ℓ m =
-    (λ d. rw length-compile at (from-within ℓ (compile s ℓ) (compile-from s ℓ) (d .1)),
-    λ h. from-dom ℓ (compile s ℓ) (compile-from s ℓ) m (h .0) (rw length-compile (h .1)))
+compile-dom s ℓ m = (
+  λ d. rw length-compile at (from-within ℓ (compile s ℓ) (compile-from s ℓ) (d .1)),
+  λ h. from-dom ℓ (compile s ℓ) (compile-from s ℓ) m (h .0) (rw length-compile (h .1)),
+)
 
 pub compile-wellformed : (s : Stm) (ℓ : ℕ) → Wellformed (compile s ℓ)
 compile-wellformed s ℓ = from-wellformed ℓ (compile s ℓ) (compile-from s ℓ)
@@ -160,10 +163,11 @@ pub dom-code : (sc : SCode) (m : ℕ) → Dom sc m ↔ InDom (U sc) m
 unfolding Dom U
 dom-code (single ℓ i) m = (λ e. (i, List·Memᴰ·head (λ k. (e k, i))), λ d. ap (λ (x : ℕ × Instr). x .0) (List·Memᴰ·eq-of-singleton (d .1)))
 dom-code 𝟎 m = (λ d. absurd d, λ d. List·Memᴰ·not-nil (d .1))
-dom-code (sc₀ ⊕ sc₁) m =
-    (⊎-elim (λ d. let e : InDom (U sc₀) m = dom-code sc₀ m .0 d in (e .0, Memᴰ·append-left (U sc₁) (e .1)))
-    (λ d. let e : InDom (U sc₁) m = dom-code sc₁ m .0 d in (e .0, Memᴰ·append-right (U sc₀) (e .1))),
-    λ d. ⊎-elim (λ h. inl (dom-code sc₀ m .1 (d .0, h))) (λ h. inr (dom-code sc₁ m .1 (d .0, h))) (List·Memᴰ·append-cases (U sc₀) (d .1)))
+dom-code (sc₀ ⊕ sc₁) m = (
+  ⊎-elim (λ d. let e : InDom (U sc₀) m = dom-code sc₀ m .0 d in (e .0, Memᴰ·append-left (U sc₁) (e .1)))
+      (λ d. let e : InDom (U sc₁) m = dom-code sc₁ m .0 d in (e .0, Memᴰ·append-right (U sc₀) (e .1))),
+  λ d. ⊎-elim (λ h. inl (dom-code sc₀ m .1 (d .0, h))) (λ h. inr (dom-code sc₁ m .1 (d .0, h))) (List·Memᴰ·append-cases (U sc₀) (d .1)),
+)
 
 -- Lemma 14: the domain is the interval from the start label up to the end label
 pub record Interval (ℓ : ℕ) (sc : SCode) (ℓ′ : ℕ) : Type 0 where
@@ -178,7 +182,7 @@ interval {s} {ℓ} {ℓ′} {sc} c =
     record {
       ordered = omega arith;
       inside = λ m d. let h = compile-dom s ℓ m .0 (subst (λ (x : Code). InDom x m) code (dom-code sc m .0 d)) in (h .0, omega (arith, h .1));
-      filled = λ m p q. dom-code sc m .1 (subst (λ (x : Code). InDom x m) (sym code) (compile-dom s ℓ m .1 (p, omega arith)))
+      filled = λ m p q. dom-code sc m .1 (subst (λ (x : Code). InDom x m) (sym code) (compile-dom s ℓ m .1 (p, omega arith)));
     }
 
 pub compiled-wellformed : {s : Stm} {ℓ ℓ′ : ℕ} {sc : SCode} → Compiles s ℓ sc ℓ′ → WellformedS sc
@@ -189,16 +193,21 @@ compiled-wellformed (seq-c c₀ c₁) =
     let i₀ = interval c₀ in let i₁ = interval c₁ in
     (compiled-wellformed c₀, compiled-wellformed c₁, λ m d₀ d₁. omega (arith, i₀ .inside m d₀ .1, i₁ .inside m d₁ .0))
 compiled-wellformed (if-c c₀ c₁) =
-    let i₀ = interval c₀ in let i₁ = interval c₁ in
-    (tt,
-    ((compiled-wellformed c₀, tt, λ m d e. omega (arith, i₀ .inside m d .1)),
-    compiled-wellformed c₁,
-    λ m d d₁. ⊎-elim (λ d₀. omega (arith, i₀ .inside m d₀ .1, i₁ .inside m d₁ .0)) (λ e. omega (arith, i₁ .inside m d₁ .0)) d),
-    λ m e d. ⊎-elim (λ d₀. ⊎-elim (λ d₁. omega (arith, i₀ .inside m d₁ .0)) (λ e₁. omega (arith, i₀ .ordered)) d₀) (λ d₁. omega (arith, i₀ .ordered, i₁ .inside m d₁ .0)) d)
+    let i₀ = interval c₀ in let i₁ = interval c₁ in (
+      tt,
+      (
+        (compiled-wellformed c₀, tt, λ m d e. omega (arith, i₀ .inside m d .1)),
+        compiled-wellformed c₁,
+        λ m d d₁. ⊎-elim (λ d₀. omega (arith, i₀ .inside m d₀ .1, i₁ .inside m d₁ .0)) (λ e. omega (arith, i₁ .inside m d₁ .0)) d,
+      ),
+      λ m e d. ⊎-elim (λ d₀. ⊎-elim (λ d₁. omega (arith, i₀ .inside m d₁ .0)) (λ e₁. omega (arith, i₀ .ordered)) d₀) (λ d₁. omega (arith, i₀ .ordered, i₁ .inside m d₁ .0)) d,
+    )
 compiled-wellformed (while-c c₀) =
-    let i₀ = interval c₀ in
-    (tt, (compiled-wellformed c₀, tt, λ m d e. omega (arith, i₀ .inside m d .1)),
-    λ m e d. ⊎-elim (λ d₀. omega (arith, i₀ .inside m d₀ .0)) (λ e₁. omega (arith, i₀ .ordered)) d)
+    let i₀ = interval c₀ in (
+      tt,
+      (compiled-wellformed c₀, tt, λ m d e. omega (arith, i₀ .inside m d .1)),
+      λ m e d. ⊎-elim (λ d₀. omega (arith, i₀ .inside m d₀ .0)) (λ e₁. omega (arith, i₀ .ordered)) d,
+    )
 
 -- ---- pieces without labels: "it comes from two skips in sequence as well"
 
@@ -222,9 +231,10 @@ only-skips (while b sₜ) e = absurd (omega arith)
 -- a compiled piece has no labels exactly if its statement is made of skips in sequence
 pub no-labels : {s : Stm} {ℓ ℓ′ : ℕ} {sc : SCode} → Compiles s ℓ sc ℓ′ → ((m : ℕ) → Dom sc m → ⊥) ↔ Skips s
 no-labels {s} {ℓ} {ℓ′} {sc} c =
-    let i = interval c in let end : ℓ′ ≡ ℓ + size s = known c .end in
-    (λ none. only-skips s (go (size s) refl none),
-    λ k m d. omega (arith, i .inside m d .0, i .inside m d .1, no-size k))
+    let i = interval c in let end : ℓ′ ≡ ℓ + size s = known c .end in (
+      λ none. only-skips s (go (size s) refl none),
+      λ k m d. omega (arith, i .inside m d .0, i .inside m d .1, no-size k),
+    )
   where
     go : (n : ℕ) → size s ≡ n → ((m : ℕ) → Dom sc m → ⊥) → size s ≡ 0
     go zero e none = e

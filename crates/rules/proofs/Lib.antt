@@ -1,4 +1,5 @@
 -- The theory of the rules: what the definitions decide, and that compiled code follows its source.
+pub mod OneAnswer
 pub mod ListLaws
 pub mod ValueLaws
 pub mod WhileLaws
@@ -7,6 +8,7 @@ pub mod CompilationLaws
 pub mod Simulation
 pub mod SGotoLaws
 pub mod TableLaws
+pub mod MeaningLaws
 pub mod Bound
 pub mod TextLaws
 pub mod WorkedRuns

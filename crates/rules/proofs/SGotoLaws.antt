@@ -116,8 +116,8 @@ module _ (M : Meaning) where
           elim again [
             | yes e ↦ evaluates-at (e ∙ sym label) (store ∙ self-jump ℓ₀ i σ (sym to ∙ e)) refl refl rest
             | no n ↦
-              let end = stays-put r (λ d. n (ap (λ (x : ℕ × Instr). x .0) (List·Memᴰ·eq-of-singleton (d .1)))) in
-              evaluates-at (sym label) refl (sym to ∙ end .0) (sym store ∙ end .1) (evaluates-one ℓ₀ i σ (λ e. n (to ∙ e)))
+                let end = stays-put r (λ d. n (ap (λ (x : ℕ × Instr). x .0) (List·Memᴰ·eq-of-singleton (d .1)))) in
+                evaluates-at (sym label) refl (sym to ∙ end .0) (sym store ∙ end .1) (evaluates-one ℓ₀ i σ (λ e. n (to ∙ e)))
           ]
 
   -- the steps of c up to where they leave the piece sc
@@ -139,16 +139,16 @@ module _ (M : Meaning) where
     where
       go : Dec (Dom sc ℓ) → Takes M c ℓ σ ℓ″ σ″ → Leaves sc c k ℓ″ σ″ ℓ′ σ′ → Leaves sc c (suc k) ℓ σ ℓ′ σ′
       go (yes d) (takes i h p q) l = record {
-          label = l .label;
-          store = l .store;
-          taken-in = suc (l .taken-in);
-          left = l .left;
-          inner = one-more (extend M (λ m j g. g) (takes i (own ℓ i h d) p q)) (l .inner);
-          gone = l .gone;
-          outer = l .outer;
-          sum = omega (arith, l .sum);
-          some-taken = λ e. omega arith
-        }
+        label = l .label;
+        store = l .store;
+        taken-in = suc (l .taken-in);
+        left = l .left;
+        inner = one-more (extend M (λ m j g. g) (takes i (own ℓ i h d) p q)) (l .inner);
+        gone = l .gone;
+        outer = l .outer;
+        sum = omega (arith, l .sum);
+        some-taken = λ e. omega arith;
+      }
       go (no f) t l = record { label = ℓ; store = σ; taken-in = zero; left = suc k; inner = none-yet; gone = f; outer = one-more s r; sum = omega arith; some-taken = λ d. absurd (f d) }
 
   -- every stuck reduction sequence of the piece is an evaluation

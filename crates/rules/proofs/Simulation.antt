@@ -38,18 +38,21 @@ pub holds-piece : (c : Code) (s : Stm) (ℓ : ℕ) → Contains c (compile s ℓ
 unfolding Holds compile
 holds-piece c skip ℓ f = tt
 holds-piece c (assign x a) ℓ f = f ℓ (x ≔ a) (List·Memᴰ·head refl)
-holds-piece c (seq s₀ s₁) ℓ f =
-    (holds-piece c s₀ ℓ (λ m i h. f m i (Memᴰ·append-left (compile s₁ (ℓ + size s₀)) h)),
-    holds-piece c s₁ (ℓ + size s₀) (λ m i h. f m i (Memᴰ·append-right (compile s₀ ℓ) h)))
-holds-piece c (if b sₜ s) ℓ f =
-    (f ℓ _ (List·Memᴰ·head refl),
-    holds-piece c sₜ (ℓ + 1) (λ m i h. f m i (List·Memᴰ·tail (Memᴰ·append-left _ h))),
-    f _ _ (List·Memᴰ·tail (Memᴰ·append-right (compile sₜ (ℓ + 1)) (List·Memᴰ·head refl))),
-    holds-piece c s (ℓ + 1 + size sₜ + 1) (λ m i h. f m i (List·Memᴰ·tail (Memᴰ·append-right (compile sₜ (ℓ + 1)) (List·Memᴰ·tail h)))))
-holds-piece c (while b sₜ) ℓ f =
-    (f ℓ _ (List·Memᴰ·head refl),
-    holds-piece c sₜ (ℓ + 1) (λ m i h. f m i (List·Memᴰ·tail (Memᴰ·append-left _ h))),
-    f _ _ (List·Memᴰ·tail (Memᴰ·append-right (compile sₜ (ℓ + 1)) (List·Memᴰ·head refl))))
+holds-piece c (seq s₀ s₁) ℓ f = (
+  holds-piece c s₀ ℓ (λ m i h. f m i (Memᴰ·append-left (compile s₁ (ℓ + size s₀)) h)),
+  holds-piece c s₁ (ℓ + size s₀) (λ m i h. f m i (Memᴰ·append-right (compile s₀ ℓ) h)),
+)
+holds-piece c (if b sₜ s) ℓ f = (
+  f ℓ _ (List·Memᴰ·head refl),
+  holds-piece c sₜ (ℓ + 1) (λ m i h. f m i (List·Memᴰ·tail (Memᴰ·append-left _ h))),
+  f _ _ (List·Memᴰ·tail (Memᴰ·append-right (compile sₜ (ℓ + 1)) (List·Memᴰ·head refl))),
+  holds-piece c s (ℓ + 1 + size sₜ + 1) (λ m i h. f m i (List·Memᴰ·tail (Memᴰ·append-right (compile sₜ (ℓ + 1)) (List·Memᴰ·tail h)))),
+)
+holds-piece c (while b sₜ) ℓ f = (
+  f ℓ _ (List·Memᴰ·head refl),
+  holds-piece c sₜ (ℓ + 1) (λ m i h. f m i (List·Memᴰ·tail (Memᴰ·append-left _ h))),
+  f _ _ (List·Memᴰ·tail (Memᴰ·append-right (compile sₜ (ℓ + 1)) (List·Memᴰ·head refl))),
+)
 
 module _ (M : Meaning) (c : Code) where
   -- ---- a run from ℓ follows an outcome of the source up to the label e
@@ -160,7 +163,7 @@ module _ (M : Meaning) (c : Code) where
       let f = follows s n ℓ σ (holds-piece c s ℓ contains) in
       record {
         arrives-if = λ d l. where-done (finds M d n l) f;
-        otherwise = λ none. let u = decides M s n σ .stop-if none in (u .0, where-stopped (u .1) f, u .2)
+        otherwise = λ none. let u = decides M s n σ .stop-if none in (u .0, where-stopped (u .1) f, u .2);
       }
 
   -- with just the While count for fuel, those are the published steps
@@ -212,5 +215,5 @@ demand-3 M s ℓ n σ =
       otherwise-out = λ none. let u = p .otherwise none in (u .0, u .1, stops M (u .2), u .2);
       finishes-only-if = λ q.
           let f = finished-as end (follows M c s n ℓ σ (holds-piece c s ℓ (piece-contains s ℓ))) q in
-          (f .0, decides M s n σ .done-only-if (f .1))
+          (f .0, decides M s n σ .done-only-if (f .1));
     }

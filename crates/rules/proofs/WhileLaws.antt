@@ -219,8 +219,8 @@ module _ (M : Meaning) where
 
   pub decides : (s : Stm) (n : ℕ) (σ : Store) → Decides s n σ
   decides s n σ = record {
-      done-if = λ d l. finds d n l;
-      done-only-if = λ q. was-done (says s n σ) q;
-      stop-if = λ no-eval. was-stopped (exec M s n σ) (says s n σ) no-eval;
-      stop-only-if = λ q within. let e = finds (within .1) n (within .2) in let z : _≡_ {A = ℕ} 0 1 = cc in omega arith
-    }
+    done-if = λ d l. finds d n l;
+    done-only-if = λ q. was-done (says s n σ) q;
+    stop-if = λ no-eval. was-stopped (exec M s n σ) (says s n σ) no-eval;
+    stop-only-if = λ q within. let e = finds (within .1) n (within .2) in let z : _≡_ {A = ℕ} 0 1 = cc in omega arith;
+  }

@@ -1,0 +1,3 @@
+-- What the proofs of several functions, here and above, cite.
+pub mod Machine
+pub mod Determined
