@@ -2,6 +2,7 @@
 -- verdict (0 done, 1 finished, 2 out of fuel, 3 refused), number, place, label, amount, and three that later requests fill.
 use Prim.Native.Nat.{ℕ}
 use mathlib.Core.List.{List, [], _∷_}
+use mathlib.Core.Option.{Option, none, some}
 use Rattle.rules.specs.declared.Refusal.{Refusal}
 use Rattle.rules.specs.declared.Checked.{Checked}
 use Rattle.rules.specs.declared.SourceRun.{SourceRun}
@@ -48,3 +49,8 @@ pub record Ended (Answer Word : Type 0) : Type 0 where
 
 abbrev pub ended : {Answer Word : Type 0} → Answer → List Word → Ended Answer Word
 ended answer after = record { answer = answer; after = after }
+
+-- a call that is refused answers so, with the buffer as it was; any other ends as it ends
+unfoldable pub unlessRefused : {Answer Word : Type 0} → (Refusal → Answer) → Option Refusal → List Word → Ended Answer Word → Ended Answer Word
+unlessRefused refusal (some r) lent end = ended (refusal r) lent
+unlessRefused refusal none lent end = end
