@@ -1,0 +1,75 @@
+-- Demand 2 for the source run: what any answer that meets its contract says of the published semantics of While. Assumes nothing.
+use mathlib.Core.Path.{_≡_, refl, sym, ap, subst, _∙_}
+use mathlib.Core.Option.{Option, none, some}
+use mathlib.Core.List.{List}
+use Prim.Native.Nat.{ℕ, _+_, _-_, _≤_}
+use native.Mathlib.Omega.{arith}
+use lib.IntN.{ℤ}
+use Rattle.rules.specs.Expression.{Store}
+use Rattle.rules.specs.While.{Stm, Meaning, Evaluates, count, Unfinished, Outcome, done, stop, exec}
+use lib.ListN.{length}
+use borrow.Author.Tests.{eq-eqb, ne-eqb}
+use Rattle.rules.specs.Table.{meaning, program, tableRefusal}
+use Rattle.rules.specs.Refusal.{refusal, refuse}
+use Rattle.rules.proofs.ListLaws.{some-orElse, none-orElse}
+use Rattle.run.specs.StoreRefusal.{storeRefusal}
+use Rattle.rules.specs.Answer.{Ended, ended, unlessRefused}
+use Rattle.rules.specs.declared.Refusal.{Refusal}
+use Rattle.rules.specs.declared.SourceRun.{SourceRun}
+use Rattle.rules.proofs.WhileLaws.{EvaluatesWithin, Says, evaluated, unfinished, says, finds}
+use Rattle.run.specs.SourceRun.{sourceRefusal, sourceEnd, sourceRun, SourceRan}
+
+-- what an answer, with the store after it, says of a table, a store and a fuel
+pub data SourceSays (t : List ℕ) (σ : Store) (n : ℕ) : SourceRun → Store → Type 0 where
+  -- a refusal is the first of 1 to 10 that the input earns, and leaves the store alone
+  refused : (r : Refusal) → sourceRefusal t σ ≡ some r → SourceSays t σ n (SourceRun.Refused r) σ
+  -- finished: the While rules give this evaluation, with this count
+  finished : {σ′ : Store} (d : Evaluates (meaning t) (program t) σ σ′) → sourceRefusal t σ ≡ none → count d ≤ n → SourceSays t σ n (SourceRun.Finished (count d)) σ′
+  -- out of fuel: n units of an evaluation that the rules do not give within n
+  out-of-fuel : {σ′ : Store} → sourceRefusal t σ ≡ none → (EvaluatesWithin (meaning t) (program t) σ n → ⊥)
+      → Unfinished (meaning t) (program t) σ n σ′ → SourceSays t σ n (SourceRun.OutOfFuel n) σ′
+
+module _ (t : List ℕ) (σ : Store) (n : ℕ) where
+  -- the end of a run that was not refused
+  told : (o : Outcome) → exec (meaning t) (program t) n σ ≡ o → sourceRefusal t σ ≡ none → Says (meaning t) (program t) n σ o
+      → SourceSays t σ n (sourceEnd n o .answer) (sourceEnd n o .after)
+  unfolding sourceEnd
+  told (done σ′ left) q e (evaluated l d s) =
+      subst (λ (k : ℕ). SourceSays t σ n (SourceRun.Finished k) σ′) (let steps : count d ≡ n - left = omega arith in steps) (finished d e (omega arith))
+  told (stop σ′) q e (unfinished u) = out-of-fuel e (λ w. stopped (sym q ∙ finds (meaning t) (w .1) n (w .2))) u
+    where
+      stopped : {τ : Store} {left : ℕ} → stop σ′ ≡ done τ left → ⊥
+      stopped {τ} {left} clash = let z : _≡_ {A = ℕ} 0 1 = cc in omega arith
+
+  answers : (o : Option Refusal) → sourceRefusal t σ ≡ o → (let end = unlessRefused SourceRun.Refused o σ (sourceEnd n (exec (meaning t) (program t) n σ)) in SourceSays t σ n (end .answer) (end .after))
+  unfolding unlessRefused
+  answers (some r) e = refused r e
+  answers none e = told (exec (meaning t) (program t) n σ) refl e (says (meaning t) (program t) n σ)
+
+  -- any answer that meets the contract says so
+  pub source-says : (r : SourceRun) (σ′ : Store) → SourceRan t σ n r σ′ → SourceSays t σ n r σ′
+  unfolding sourceRun
+  source-says r σ′ ran = rw (ran .answer, ran .store) (answers (sourceRefusal t σ) refl)
+
+-- ---- the call, by cases
+
+module _ (t : List ℕ) (σ : Store) (n : ℕ) where
+  pub table-refused : {r : Refusal} → tableRefusal t ≡ some r → sourceRun t σ n ≡ ended (SourceRun.Refused r) σ
+  unfolding sourceRun sourceRefusal unlessRefused
+  table-refused {r} e = rw (some-orElse (tableRefusal t) (storeRefusal σ) r e)
+
+  pub store-refused : tableRefusal t ≡ none → (length σ ≡ 32 → ⊥) → sourceRun t σ n ≡ ended (SourceRun.Refused (refusal 10 0)) σ
+  unfolding sourceRun sourceRefusal storeRefusal refuse unlessRefused
+  store-refused e h = rw (none-orElse (tableRefusal t) (storeRefusal σ) e, ne-eqb (length σ) 32 h)
+
+  pub source-runs : tableRefusal t ≡ none → length σ ≡ 32 → sourceRun t σ n ≡ sourceEnd n (exec (meaning t) (program t) n σ)
+  unfolding sourceRun sourceRefusal storeRefusal refuse unlessRefused
+  source-runs e h = rw (none-orElse (tableRefusal t) (storeRefusal σ) e, eq-eqb (length σ) 32 h)
+
+-- an answer and a store that are an end's
+pub ended-so : {t : List ℕ} {σ : Store} {n : ℕ} {r : SourceRun} {σ′ : Store} → sourceRun t σ n ≡ ended r σ′ → SourceRan t σ n r σ′
+ended-so e = record { answer = ap (λ x. x .answer) (sym e); store = ap (λ x. x .after) (sym e) }
+
+-- two answers that meet the contract are one, and so are the stores
+pub one-source-answer : {t : List ℕ} {σ : Store} {n : ℕ} {r₁ r₂ : SourceRun} {σ₁ σ₂ : Store} → SourceRan t σ n r₁ σ₁ → SourceRan t σ n r₂ σ₂ → (r₁ ≡ r₂) × (σ₁ ≡ σ₂)
+one-source-answer a b = (a .answer ∙ sym (b .answer), a .store ∙ sym (b .store))

@@ -1,0 +1,105 @@
+// The evaluators: the value or the truth of an expression node of an accepted table, on a store.
+ghost use mathlib.Core.Path.{_≡_};
+ghost use Prim.Native.Nat.{_+_, _*_, _<_, _≤_};
+ghost use lib.ListN.{length};
+ghost use Rattle.rules.specs.Expression.{apply as applied, holds as held};
+ghost use Rattle.rules.specs.Table.{field, meaning, arithmetic, boolean as booleans};
+ghost use Rattle.rules.proofs.TableLaws.{operatorOf, relationOf};
+ghost use Rattle.run.specs.Ready.{Ready, Inner};
+
+// Word i of node n.
+pub fn word(t: &[u32], n: usize, i: usize) -> u32
+    requires { ⌜ 4 * n + i < length (now t) ⌝ }
+    ensures { λ r. ⌜ r ≡ field (now (t .entry)) n i ⌝ }
+{
+    t[4 * n + i]
+}
+
+// The same, as a node or a variable.
+pub fn place(t: &[u32], n: usize, i: usize) -> usize
+    requires { ⌜ 4 * n + i < length (now t) ⌝ }
+    ensures { λ r. ⌜ r ≡ field (now (t .entry)) n i ⌝ }
+{
+    word(t, n, i) as usize
+}
+
+// The operation of kind k, 3 to 7.
+fn apply(k: u32, a: i32, b: i32) -> i32
+    requires { ⌜ (3 ≤ k) × (k ≤ 7) ⌝ }
+    ensures { λ r. ⌜ r ≡ applied (operatorOf k) a b ⌝ }
+{
+    match k {
+        3 => value::add(a, b),
+        4 => value::sub(a, b),
+        5 => value::mul(a, b),
+        6 => value::div(a, b),
+        _ => value::rem(a, b),
+    }
+}
+
+// The comparison of kind k, 18 to 20.
+fn compare(k: u32, a: i32, b: i32) -> bool
+    requires { ⌜ (18 ≤ k) × (k ≤ 20) ⌝ }
+    ensures { λ r. ⌜ r ≡ held (relationOf k) a b ⌝ }
+{
+    match k {
+        18 => a == b,
+        19 => a <= b,
+        _ => a < b,
+    }
+}
+
+// The value of the arithmetic node n. A number or a variable is read here, so that an operand that is one costs no call.
+pub fn arith(t: &[u32], s: &[i32], n: usize) -> i32
+    requires { ⌜ Ready (now t) (now s) n arithmetic ⌝ }
+    ensures { λ r. ⌜ r ≡ meaning (now (t .entry)) .arith n (now (s .entry)) ⌝ }
+{
+    let k = word(t, n, 0);
+    match k {
+        1 => value::of_word(word(t, n, 1)),
+        2 => {
+            let x = place(t, n, 1);
+            s[x]
+        }
+        _ => operation(t, s, n, k),
+    }
+}
+
+// The value of the arithmetic node n of kind k, 3 to 8.
+fn operation(t: &[u32], s: &[i32], n: usize, k: u32) -> i32
+    requires { ⌜ Inner (now t) (now s) n k ⌝ }
+    ensures { λ r. ⌜ r ≡ meaning (now (t .entry)) .arith n (now (s .entry)) ⌝ }
+{
+    if k == 8 {
+        if boolean(t, s, place(t, n, 1)) {
+            return arith(t, s, place(t, n, 2));
+        }
+        return arith(t, s, place(t, n, 3));
+    }
+    let a = arith(t, s, place(t, n, 1));
+    let b = arith(t, s, place(t, n, 2));
+    apply(k, a, b)
+}
+
+// The truth of the boolean node n.
+pub fn boolean(t: &[u32], s: &[i32], n: usize) -> bool
+    requires { ⌜ Ready (now t) (now s) n booleans ⌝ }
+    ensures { λ r. ⌜ r ≡ meaning (now (t .entry)) .holds n (now (s .entry)) ⌝ }
+{
+    let k = word(t, n, 0);
+    match k {
+        16 => true,
+        17 => false,
+        21 => !boolean(t, s, place(t, n, 1)),
+        22 => {
+            let a = boolean(t, s, place(t, n, 1));
+            let b = boolean(t, s, place(t, n, 2));
+            a & b
+        }
+        _ => {
+            let a = arith(t, s, place(t, n, 1));
+            let b = arith(t, s, place(t, n, 2));
+            compare(k, a, b)
+        }
+    }
+}

@@ -1,0 +1,76 @@
+-- `table::check` meets its contract: each part of the answer is that of a call, in the order of the numbers.
+use mathlib.Core.Path.{_≡_, sym, _∙_}
+use mathlib.Core.Bool.{true}
+use mathlib.Core.List.{List}
+use Prim.Native.Nat.{ℕ, _-_, _*_, _<_, _≤_}
+use native.Mathlib.Omega.{arith}
+use Rattle.rules.specs.Table.{nodes, wholeTable}
+use Rattle.rules.proofs.TableLaws.{whole-table}
+use Rattle.table.specs.Checking.{Sound}
+use Rattle.table.specs.Marks.{marksOf}
+use Rattle.table.proofs.RowLaws.{rowsOfCode, rows-right}
+use Rattle.table.proofs.CheckLaws.{refused-1, refused-2-to-6, sound-nodes, checking-sound}
+use borrow.Author.Needs.{needs}
+use borrow.Author.Tests.{not-true, not-false}
+use Rattle.table.proofs.check.Statement.{statement}
+use Rattle.table.proofs.check.Tie as tie
+use Rattle.table.proofs.check.Reads as reads
+use Rattle.table.proofs.check.Lts as lts
+use Rattle.table.proofs.check_tree.Reads as check-tree-reads
+use Rattle.table.proofs.walk.Reads as walk-reads
+use Rattle.table.proofs.whole.Reads as whole-reads
+
+is-whole : (c : tie.Else1) → wholeTable (c .before .before .before .args .table .now) ≡ true
+unfolding wholeTable
+is-whole c = sym (c .before .whole .ensures) ∙ not-false _ (c .if1 .left)
+
+is-sound : (c : tie.After-enum-told) → Sound (c .before .before .before .before .before .before .before .before .args .table .now)
+is-sound c = sound-nodes _ (sym (c .enum-told .given .1) ∙ c .before .before .walk .ensures .0)
+
+whole-requires : tie.Need-whole-requires
+whole-requires c κs = search needs
+
+returns : tie.Need-returns
+unfolding wholeTable
+returns c = sym (refused-1 _ (sym (c .before .whole .ensures) ∙ not-true _ (c .if1 .taken)))
+
+walk-requires : tie.Need-walk-requires
+unfolding rowsOfCode
+walk-requires c κs = (whole-table _ (is-whole (c .before .before)) .2, rows-right)
+
+enum-told : tie.Need-enum-told
+enum-told c = search needs
+
+check-tree-requires : tie.Need-check-tree-requires
+unfolding marksOf rowsOfCode
+check-tree-requires c κs =
+    let told = c .before .before in
+    let w = whole-table _ (is-whole (told .before .before .before .before .before)) in
+    (record { inside = omega arith; few = w .2 }, is-sound told, told .before .before .walk .ensures .1 (is-sound told), rows-right)
+
+enum-told-2 : tie.Need-enum-told-2
+enum-told-2 c = search needs
+
+returns-2 : tie.Need-returns-2
+returns-2 c =
+    let told = c .before .before .before in
+    c .check-tree .ensures ∙ sym (checking-sound _ (is-whole (told .before .before .before .before .before)) (is-sound told))
+
+returns-3 : tie.Need-returns-3
+returns-3 c =
+    let walked = c .before .before in
+    let refused = c .enum-told2 .given .1 in
+    refused ∙ sym (refused-2-to-6 _ (is-whole (walked .before .before .before)) _ (sym refused ∙ walked .walk .ensures .0))
+
+pub check-spec : {M : Type 1} → statement M
+check-spec =
+    tie.close
+    (tie.spec
+    whole-requires
+    returns
+    walk-requires
+    enum-told
+    check-tree-requires
+    enum-told-2
+    returns-2
+    returns-3)

@@ -1,0 +1,83 @@
+-- `table::walk` meets its contract. The loop's invariant: no node passed has a fault, and the marks are those of their children.
+use mathlib.Core.Path.{_≡_, refl, ap, sym, _∙_}
+use mathlib.Core.List.{List}
+use Prim.Native.Nat.{ℕ, _≤_, _<_, _-_}
+use native.Mathlib.Omega.{arith}
+use borrow.Author.Needs.{needs}
+use borrow.Author.Count.{below-more}
+use Rattle.rules.specs.Lists.{joined}
+use Rattle.rules.specs.Refusal.{fine, refusal}
+use Rattle.rules.specs.Table.{nodes, nodeFault, children}
+use Rattle.rules.specs.declared.Checked.{Checked}
+use Rattle.rules.proofs.ListLaws.{some-refuseLowest, none-refuseLowest}
+use Rattle.table.specs.Checking.{answer}
+use Rattle.table.specs.Marks.{bumps}
+use Rattle.table.proofs.MarkLaws.{marks-next}
+use Rattle.table.proofs.walk.Statement.{statement}
+use Rattle.table.proofs.walk.Tie as tie
+use Rattle.table.proofs.walk.Reads as reads
+use Rattle.table.proofs.walk.Lts as lts
+use Rattle.table.proofs.node.Reads as node-reads
+
+abbrev Inv-loop : tie.InvT-loop
+Inv-loop t rows marks₀ count n₀ marks n =
+    (n ≤ count) × ((k : ℕ) → k < n → nodeFault t k ≡ fine) × (marks ≡ bumps marks₀ (joined (children t) n))
+
+abbrev μ-loop : tie.MeasureT-loop
+μ-loop t rows marks₀ count n₀ marks n = count - n
+
+loop-holds : tie.Need-loop-holds Inv-loop μ-loop
+unfolding joined bumps
+loop-holds c = (search needs, λ k h. absurd (omega arith), refl)
+
+node-requires : tie.Need-node-requires Inv-loop μ-loop
+node-requires c κs = (record { inside = search needs; few = search needs }, c .before .before .before .before .pre .1)
+
+cast-t10 : tie.Need-cast-t10 Inv-loop μ-loop
+cast-t10 c = search needs
+
+returns : tie.Need-returns Inv-loop μ-loop
+unfolding answer
+returns c =
+    let here = c .before .before .before .before in
+    let t : List ℕ = here .before .before .args .t .now in
+    let n : ℕ = here .loop .n in
+    let seen = c .before .node .ensures in
+    let inside : n < nodes t = search needs in
+    let faulty : nodeFault t n ≡ fine → ⊥ = λ e. c .if1 .taken (seen .fault ∙ e) in
+    (rw (some-refuseLowest (nodeFault t) (nodes t) n inside faulty (here .loop .inv .1)) (ap (λ (x : ℕ). Checked.Refused (refusal x n)) (seen .fault)), λ s. absurd (faulty (s n inside)))
+
+add-n : tie.Need-add-n Inv-loop μ-loop
+add-n c = search needs
+
+loop-less : tie.Need-loop-less Inv-loop μ-loop
+loop-less c = search needs
+
+loop-again : tie.Need-loop-again Inv-loop μ-loop
+loop-again c =
+    let here = c .before .before .before .before in
+    let seen = c .before .node .ensures in
+    (search needs, below-more _ _ (here .loop .inv .1) (sym (seen .fault) ∙ c .if1 .left), marks-next _ _ _ _ _ (here .loop .inv .2) (seen .marked (c .if1 .left)))
+
+returns-2 : tie.Need-returns-2 Inv-loop μ-loop
+unfolding answer
+returns-2 c =
+    let t : List ℕ = c .before .before .before .args .t .now in
+    let all : c .before .loop .n ≡ nodes t = search needs in
+    let inv = c .before .loop .inv in
+    (rw (none-refuseLowest (nodeFault t) (nodes t) (rw all at (inv .1))), λ _. rw all at (inv .2))
+
+pub walk-spec : {M : Type 1} → statement M
+walk-spec =
+    tie.close
+    (tie.spec
+    Inv-loop
+    μ-loop
+    loop-holds
+    node-requires
+    cast-t10
+    returns
+    add-n
+    loop-less
+    loop-again
+    returns-2)

@@ -1,0 +1,244 @@
+// The table check: refusals 1 to 9 of a table of words.
+mod rows;
+
+use rules::Checked;
+use rules::Refusal;
+ghost use mathlib.Core.Path.{_≡_};
+ghost use mathlib.Core.Bool.{_&&_};
+ghost use Prim.Native.Nat.{ℕ, _%_, _<_, _≤_, min};
+ghost use lib.Dec.{eqb, ltb, leb};
+ghost use lib.ListN.{getD};
+ghost use Rattle.rules.specs.Lists.{joined};
+ghost use Rattle.rules.specs.Refusal.{fine, refuseLowest};
+ghost use Rattle.rules.specs.Table.{Slot, nodes, root, rowAt, nodeFault, childIn, children, deepest, depthAt};
+ghost use Rattle.table.specs.Checking.{answer, checking, treeRefusal, Sound};
+ghost use Rattle.table.specs.Marks.{slotCode, rowCode, Rows, bump, bumps, marksOf, Within, Placed, LastTwo, Walked};
+
+// Marks k as a child: 1 for the first time, 2 for every later one.
+fn mark(marks: &mut [u8; 1024], k: usize)
+    requires { ⌜ k < 1024 ⌝ }
+    ensures { λ _. ⌜ now (marks .exit) ≡ bump (now (marks .entry)) k ⌝ }
+{
+    if marks[k] == 0 {
+        marks[k] = 1;
+    } else {
+        marks[k] = 2;
+    }
+}
+
+// 5 or 6 for a child w of node n, which is to be of this class, or 99; then it is marked.
+fn child(t: &[u32], rows: &[u16; 37], n: usize, class: u16, w: u32, marks: &mut [u8; 1024]) -> u32
+    requires { ⌜ Within (now t) n × Rows (now rows) ⌝ }
+    ensures { λ r. ⌜ ((s : Slot) → slotCode s ≡ class → class < 4 → Placed (now (t .entry)) n s w (now (marks .entry)) r (now (marks .exit))) ⌝ }
+{
+    let k = w as usize;
+    if k < n {
+        if rows::row_at(t, rows, k) / 4096 == class {
+            mark(marks, k);
+            99
+        } else {
+            6
+        }
+    } else {
+        5
+    }
+}
+
+// The greatest word that a slot takes which is no child.
+fn greatest(slot: u16) -> u32
+    ensures { λ r. ⌜ (slot ≡ 4 → r ≡ 0) × (slot ≡ 5 → r ≡ 4294967295) × (slot ≡ 6 → r ≡ 31) ⌝ }
+{
+    match slot {
+        4 => 0,
+        5 => 4294967295,
+        _ => 31,
+    }
+}
+
+// 3, 4, 5 or 6 for the word w of node n in this slot, or 99.
+fn word(t: &[u32], rows: &[u16; 37], n: usize, slot: u16, w: u32, marks: &mut [u8; 1024]) -> u32
+    requires { ⌜ Within (now t) n × Rows (now rows) ⌝ }
+    ensures { λ r. ⌜ ((s : Slot) → slotCode s ≡ slot → Placed (now (t .entry)) n s w (now (marks .entry)) r (now (marks .exit))) ⌝ }
+{
+    if slot < 4 {
+        return child(t, rows, n, slot, w, marks);
+    }
+    if w <= greatest(slot) {
+        return 99;
+    }
+    if slot == 4 { 3 } else { 4 }
+}
+
+fn lower(a: u32, b: u32) -> u32
+    ensures { λ r. ⌜ r ≡ min a b ⌝ }
+{
+    if a < b { a } else { b }
+}
+
+// The lower fault of the words q and r of node n, which has this row, or 99.
+fn last_two(t: &[u32], rows: &[u16; 37], n: usize, row: u16, marks: &mut [u8; 1024]) -> u32
+    requires { ⌜ Within (now t) n × Rows (now rows) × (row ≡ rowCode (rowAt (now t) n)) ⌝ }
+    ensures { λ r. ⌜ LastTwo (now (t .entry)) n (now (marks .entry)) r (now (marks .exit)) ⌝ }
+{
+    let at = 4 * n;
+    let q = word(t, rows, n, row / 16 % 16, t[at + 2], marks);
+    if q == 99 {
+        return word(t, rows, n, row % 16, t[at + 3], marks);
+    }
+    lower(q, word(t, rows, n, row % 16, t[at + 3], marks))
+}
+
+// "the lowest number at a node first": 2 to 6 for node n, or 99; then its children are marked.
+fn node(t: &[u32], rows: &[u16; 37], n: usize, marks: &mut [u8; 1024]) -> u32
+    requires { ⌜ Within (now t) n × Rows (now rows) ⌝ }
+    ensures { λ r. ⌜ Walked (now (t .entry)) n (now (marks .entry)) r (now (marks .exit)) ⌝ }
+{
+    let at = 4 * n;
+    let row = rows::row_at(t, rows, n);
+    if row / 4096 == 3 {
+        return 2;
+    }
+    let p = word(t, rows, n, row / 256 % 16, t[at + 1], marks);
+    if p == 99 {
+        return last_two(t, rows, n, row, marks);
+    }
+    lower(p, last_two(t, rows, n, row, marks))
+}
+
+// "Numbers 2 to 6 go node by node from 0": the first node with a fault. Where there is none, every child is marked.
+fn walk(t: &[u32], rows: &[u16; 37], marks: &mut [u8; 1024]) -> Checked
+    requires { ⌜ (nodes (now t) ≤ 1024) × Rows (now rows) ⌝ }
+    ensures faults { λ r. ⌜ r ≡ answer (refuseLowest (nodeFault (now (t .entry))) (nodes (now (t .entry)))) ⌝ }
+    ensures marked { λ r. ⌜ (Sound (now (t .entry)) → now (marks .exit) ≡ bumps (now (marks .entry)) (joined (children (now (t .entry))) (nodes (now (t .entry))))) ⌝ }
+{
+    let count = t.len() / 4;
+    let mut n = 0;
+    while n < count {
+        let fault = node(t, rows, n, marks);
+        if fault != 99 {
+            return Checked::Refused(Refusal {
+                number: fault,
+                place: n as u32,
+            });
+        }
+        n += 1;
+    }
+    Checked::Done
+}
+
+// The first of the marks below root that is not 1, or root.
+fn first_not_one(marks: &[u8; 1024], root: usize) -> usize
+    requires { ⌜ root < 1024 ⌝ }
+    ensures { λ r. ⌜ (r ≤ root) × ((k : ℕ) → k < r → getD (now (marks .entry)) k 0 ≡ 1) × (r < root → getD (now (marks .entry)) r 0 ≡ 1 → ⊥) ⌝ }
+{
+    let mut k = 0;
+    while k < root {
+        if marks[k] != 1 {
+            return k;
+        }
+        k += 1;
+    }
+    k
+}
+
+// Whether the word w in this slot is no child, or one at most this deep. A node is at most one deeper than its number, and a number
+// or a variable has depth 1.
+fn under(t: &[u32], rows: &[u16; 37], slot: u16, w: u32, budget: usize) -> bool
+    requires { ⌜ Sound (now t) × Rows (now rows) × (slot < 4 → w < nodes (now t)) ⌝ }
+    ensures { λ r. ⌜ ((s : Slot) → slotCode s ≡ slot → r ≡ leb (deepest (depthAt (now (t .entry))) (childIn s w)) budget) ⌝ }
+{
+    if 4 <= slot {
+        return true;
+    }
+    let k = w as usize;
+    if k < budget {
+        return true;
+    }
+    if t[4 * k] < 3 {
+        return 0 < budget;
+    }
+    shallow(t, rows, k, budget)
+}
+
+// Whether node top is at most this deep. The first child is looked at in the next pass, the others by calls with a lesser budget, so
+// that calls nest no deeper than the budget.
+fn shallow(t: &[u32], rows: &[u16; 37], top: usize, budget: usize) -> bool
+    requires { ⌜ Sound (now t) × Rows (now rows) × (top < nodes (now t)) ⌝ }
+    ensures { λ r. ⌜ r ≡ leb (depthAt (now (t .entry)) top) budget ⌝ }
+{
+    let mut n = top;
+    let mut left = budget;
+    while left <= n {
+        if left == 0 {
+            return false;
+        }
+        left -= 1;
+        let at = 4 * n;
+        let row = rows::row_at(t, rows, n);
+        if !under(t, rows, row / 16 % 16, t[at + 2], left) {
+            return false;
+        }
+        if !under(t, rows, row % 16, t[at + 3], left) {
+            return false;
+        }
+        if 4 <= row / 256 % 16 {
+            return true;
+        }
+        n = t[at + 1] as usize;
+    }
+    true
+}
+
+// Refusals 7 to 9, where no node is refused and every child is marked.
+fn check_tree(t: &[u32], rows: &[u16; 37], marks: &[u8; 1024]) -> Checked
+    requires { ⌜ Within (now t) (root (now t)) × Sound (now t) × (now marks ≡ marksOf (now t)) × Rows (now rows) ⌝ }
+    ensures { λ r. ⌜ r ≡ answer (treeRefusal (now (t .entry))) ⌝ }
+{
+    let root = t.len() / 4 - 1;
+    if rows::row_at(t, rows, root) / 4096 != 2 {
+        return Checked::Refused(Refusal {
+            number: 7,
+            place: root as u32,
+        });
+    }
+    let k = first_not_one(marks, root);
+    if k < root {
+        return Checked::Refused(Refusal {
+            number: 8,
+            place: k as u32,
+        });
+    }
+    if shallow(t, rows, root, 256) {
+        Checked::Done
+    } else {
+        Checked::Refused(Refusal {
+            number: 9,
+            place: 0,
+        })
+    }
+}
+
+// "table words not a multiple of 4, none, or over 4,096" is refused.
+fn whole(words: usize) -> bool
+    ensures { λ r. ⌜ r ≡ (eqb (words % 4) 0 && ltb 0 words && leb words 4096) ⌝ }
+{
+    (words % 4 == 0) & (0 < words) & (words <= 4096)
+}
+
+pub fn check(table: &[u32]) -> Checked
+    ensures { λ r. ⌜ r ≡ checking (now (table .entry)) ⌝ }
+{
+    if !whole(table.len()) {
+        return Checked::Refused(Refusal {
+            number: 1,
+            place: 0,
+        });
+    }
+    let rows = rows::ROWS;
+    let mut marks = [0u8; 1024];
+    let walked = walk(table, &rows, &mut marks);
+    match walked {
+        Checked::Done => check_tree(table, &rows, &marks),
+        Checked::Refused(_) => walked,
+    }
+}
