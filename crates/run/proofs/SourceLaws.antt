@@ -17,7 +17,7 @@ use Rattle.rules.specs.Answer.{Ended, ended, unlessRefused}
 use Rattle.rules.specs.declared.Refusal.{Refusal}
 use Rattle.rules.specs.declared.SourceRun.{SourceRun}
 use Rattle.rules.proofs.WhileLaws.{EvaluatesWithin, Says, evaluated, unfinished, says, finds}
-use Rattle.run.specs.SourceRun.{sourceRefusal, sourceEnd, sourceRun, SourceRan}
+use Rattle.run.specs.SourceRun.{sourceRefusal, sourceEnd, sourceRun}
 
 -- what an answer, with the store after it, says of a table, a store and a fuel
 pub data SourceSays (t : List ℕ) (σ : Store) (n : ℕ) : SourceRun → Store → Type 0 where
@@ -47,9 +47,12 @@ module _ (t : List ℕ) (σ : Store) (n : ℕ) where
   answers none e = told (exec (meaning t) (program t) n σ) refl e (says (meaning t) (program t) n σ)
 
   -- any answer that meets the contract says so
-  pub source-says : (r : SourceRun) (σ′ : Store) → SourceRan t σ n r σ′ → SourceSays t σ n r σ′
+  pub source-says : (r : SourceRun) (σ′ : Store) → ended r σ′ ≡ sourceRun t σ n → SourceSays t σ n r σ′
   unfolding sourceRun
-  source-says r σ′ ran = rw (ran .answer, ran .store) (answers (sourceRefusal t σ) refl)
+  source-says r σ′ met =
+      let answer : r ≡ sourceRun t σ n .answer = ap (λ x. x .answer) met in
+      let store : σ′ ≡ sourceRun t σ n .after = ap (λ x. x .after) met in
+      rw (answer, store) (answers (sourceRefusal t σ) refl)
 
 -- ---- the call, by cases
 
@@ -66,10 +69,6 @@ module _ (t : List ℕ) (σ : Store) (n : ℕ) where
   unfolding sourceRun sourceRefusal storeRefusal refuse unlessRefused
   source-runs e h = rw (none-orElse (tableRefusal t) (storeRefusal σ) e, eq-eqb (length σ) 32 h)
 
--- an answer and a store that are an end's
-pub ended-so : {t : List ℕ} {σ : Store} {n : ℕ} {r : SourceRun} {σ′ : Store} → sourceRun t σ n ≡ ended r σ′ → SourceRan t σ n r σ′
-ended-so e = record { answer = ap (λ x. x .answer) (sym e); store = ap (λ x. x .after) (sym e) }
-
 -- two answers that meet the contract are one, and so are the stores
-pub one-source-answer : {t : List ℕ} {σ : Store} {n : ℕ} {r₁ r₂ : SourceRun} {σ₁ σ₂ : Store} → SourceRan t σ n r₁ σ₁ → SourceRan t σ n r₂ σ₂ → (r₁ ≡ r₂) × (σ₁ ≡ σ₂)
-one-source-answer a b = (a .answer ∙ sym (b .answer), a .store ∙ sym (b .store))
+pub one-source-answer : (t : List ℕ) (σ : Store) (n : ℕ) {r₁ r₂ : SourceRun} {σ₁ σ₂ : Store} → ended r₁ σ₁ ≡ sourceRun t σ n → ended r₂ σ₂ ≡ sourceRun t σ n → (r₁ ≡ r₂) × (σ₁ ≡ σ₂)
+one-source-answer t σ n a b = (ap (λ x. x .answer) (a ∙ sym b), ap (λ x. x .after) (a ∙ sym b))

@@ -1,6 +1,5 @@
 -- The source run (01, "While runs and their count" and "Verdicts, numbers and their order"): for every input the answer, and the store
 -- after it.
-use mathlib.Core.Path.{_≡_}
 use Prim.Native.Nat.{ℕ, _-_}
 use mathlib.Core.List.{List}
 use mathlib.Core.Option.{Option}
@@ -25,8 +24,3 @@ sourceEnd n (stop σ) = ended (SourceRun.OutOfFuel n) σ
 
 unfoldable pub sourceRun : List ℕ → Store → ℕ → Ended SourceRun ℤ
 sourceRun t σ n = unlessRefused SourceRun.Refused (sourceRefusal t σ) σ (sourceEnd n (exec (meaning t) (program t) n σ))
-
--- the contract: this answer, and this store after it
-pub record SourceRan (t : List ℕ) (σ : Store) (n : ℕ) (r : SourceRun) (σ′ : Store) : Type 0 where
-  pub answer : r ≡ sourceRun t σ n .answer
-  pub store : σ′ ≡ sourceRun t σ n .after

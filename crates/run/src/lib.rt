@@ -5,11 +5,13 @@ mod source;
 use rules::Checked;
 use rules::Refusal;
 use rules::SourceRun;
-ghost use Rattle.run.specs.SourceRun.{SourceRan};
+ghost use mathlib.Core.Path.{_≡_};
+ghost use Rattle.rules.specs.Answer.{ended};
+ghost use Rattle.run.specs.SourceRun.{sourceRun};
 
 // Runs the statement of the table's root on the store, within fuel.
 pub fn run_source(table: &[u32], store: &mut [i32], fuel: u32) -> SourceRun
-    ensures { λ r. ⌜ SourceRan (now (table .entry)) (now (store .entry)) fuel r (now (store .exit)) ⌝ }
+    ensures { λ r. ⌜ ended r (now (store .exit)) ≡ sourceRun (now (table .entry)) (now (store .entry)) fuel ⌝ }
 {
     let checked = table::check(table);
     if let Checked::Refused(refusal) = checked {

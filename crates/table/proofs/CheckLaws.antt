@@ -3,13 +3,13 @@ use mathlib.Core.Path.{_≡_, refl, ap, sym, _∙_}
 use mathlib.Core.Bool.{Bool, true, false, not}
 use mathlib.Core.List.{List}
 use mathlib.Core.Option.{Option, none, some}
-use Prim.Native.Nat.{ℕ, _/_, _<_, _≤_, min}
+use Prim.Native.Nat.{ℕ, _*_, _/_, _<_, _≤_, min}
 use native.Mathlib.Omega.{arith}
 use lib.ListN.{getD}
 use borrow.Author.Tests.{eq-eqb, ne-eqb, lt-ltb, le-ltb}
 use Rattle.rules.specs.Lists.{joined}
 use Rattle.rules.specs.Refusal.{refusal, fine, refuse, refuseLowest, _orElse_}
-use Rattle.rules.specs.Table.{nodes, root, rowAt, statement, rank, isClass, children, occurs, depthAt}
+use Rattle.rules.specs.Table.{nodes, root, kindOf, rowOf, rowAt, statement, rank, isClass, children, occurs, depthAt}
 use Rattle.rules.specs.Table.{wholeTable, nodeFault, onceFault, tableRefusal}
 use Rattle.rules.specs.declared.Refusal.{Refusal}
 use Rattle.rules.specs.declared.Checked.{Checked}
@@ -50,7 +50,7 @@ module _ (t : List ℕ) where
   checking-sound w s = checking-whole w ∙ rw (none-refuseLowest (nodeFault t) (nodes t) s)
 
 -- refusals 7 to 9, from the root's row and the marks
-module _ (t : List ℕ) (row : ℕ) (read : row ≡ rowCode (rowAt t (root t))) where
+module _ (t : List ℕ) (row : ℕ) (read : row ≡ rowCode (rowOf (kindOf (getD t (4 * root t) 0)))) where
   pub refused-7 : (row / 4096 ≡ 2 → ⊥) → answer (treeRefusal t) ≡ Checked.Refused (refusal 7 (root t))
   unfolding treeRefusal answer _orElse_ refuse
   refused-7 ne = rw (ne-eqb (rank (rowAt t (root t) .class)) 2 (λ e. ne (sym (class-here t (root t) row read) ∙ e)))

@@ -2,15 +2,13 @@
 use mathlib.Core.Path.{_≡_, refl, ap, ap₂, sym, _∙_}
 use mathlib.Core.Bool.{Bool, true, false}
 use mathlib.Core.List.{List, [], _∷_, _++_}
-use Prim.Native.Nat.{ℕ, zero, suc, _+_, _*_, _/_, _-_, _<_, _≤_, max}
-use native.Mathlib.Nat.{add-zero}
+use Prim.Native.Nat.{ℕ, zero, suc, _/_, _-_, _<_, _≤_, max}
 use native.Mathlib.Omega.{arith}
 use lib.Dec.{leb}
-use lib.ListN.{length, getD}
+use lib.ListN.{length}
 use borrow.Author.Tests.{le-leb, lt-leb, leb-true, leb-false}
-use Rattle.rules.specs.Lists.{fetch}
-use Rattle.rules.specs.Table.{field, nodes, kindOf, rowOf, rowAt, Slot, unused, any, var, child, childIn, children, deepest, depthAt}
-use Rattle.rules.proofs.TableLaws.{Fills, NodeFits, node-fits, Below, children-below, depth-at, in-run}
+use Rattle.rules.specs.Table.{field, nodes, rowAt, Slot, unused, any, var, child, childIn, children, deepest, depthAt}
+use Rattle.rules.proofs.TableLaws.{Fills, NodeFits, node-fits, Below, children-below, depth-at}
 use Rattle.table.specs.Checking.{Sound}
 use Rattle.table.specs.Marks.{slotCode}
 use Rattle.table.proofs.RowLaws.{rank-small}
@@ -50,10 +48,6 @@ child-lower t n any w k e f h = absurd (omega arith)
 child-lower t n var w k e f h = absurd (omega arith)
 child-lower t n (child c) w k e f h = f .below
 
-no-children : (t : List ℕ) (n : ℕ) → field t n 0 < 3 → children t n ≡ []
-unfolding children rowOf kindOf fetch childIn
-no-children t n h = in-run (λ k. childIn (rowOf (kindOf k) .p) (field t n 1) ++ childIn (rowOf (kindOf k) .q) (field t n 2) ++ childIn (rowOf (kindOf k) .r) (field t n 3) ≡ []) 0 3 (refl, (refl, (refl, tt))) (field t n 0) (omega arith) h
-
 module _ (t : List ℕ) (sound : Sound t) where
   pub fits : (n : ℕ) → n < nodes t → NodeFits t n
   fits n h = node-fits t n (sound n h)
@@ -67,13 +61,6 @@ module _ (t : List ℕ) (sound : Sound t) where
       let rs = childIn (rowAt t n .r) (field t n 3) in
       depth-at t n (children-below t n (fits n h))
       ∙ ap suc (deepest-append (depthAt t) (ps ++ qs) rs ∙ rw (deepest-append (depthAt t) ps qs))
-
-  -- a number or a variable
-  pub leaf-depth : (n : ℕ) → n < nodes t → getD t (4 * n) 0 < 3 → depthAt t n ≡ 1
-  unfolding deepest
-  leaf-depth n h l =
-      depth-at t n (children-below t n (fits n h))
-      ∙ ap (λ (xs : List ℕ). suc (deepest (depthAt t) xs)) (no-children t n (rw add-zero l))
 
   -- a node is at most one deeper than its number
   pub depth-most : (n : ℕ) → n < nodes t → depthAt t n ≤ suc n

@@ -7,7 +7,7 @@ use lib.Dec.{eqb, lit≤}
 use lib.ListN.{getD}
 use borrow.Author.Tests.{eqb-true}
 use Rattle.rules.specs.Lists.{fetch, every}
-use Rattle.rules.specs.Table.{kindOf, rowOf, rowAt, Row, Class, arithmetic, boolean, statement, no-class, rank, Slot, unused, any, var, child}
+use Rattle.rules.specs.Table.{kindOf, rowOf, Row, Class, arithmetic, boolean, statement, no-class, rank, Slot, unused, any, var, child}
 use Rattle.rules.proofs.ListLaws.{every-true}
 use Rattle.rules.proofs.TableLaws.{kind-past}
 use Rattle.table.specs.Marks.{slotCode, rowCode, Rows}
@@ -80,7 +80,3 @@ rows-right k h = eqb-true _ _ (every-true (λ k. eqb (getD rowsOfCode k 0) (rowC
 pub row-past : (k : ℕ) → 37 ≤ k → 13380 ≡ rowCode (rowOf (kindOf k))
 unfolding rowOf rowCode slotCode
 row-past k h = rw (kind-past k h)
-
--- the row that the code reads is the node's
-pub row-read : (t : List ℕ) (n : ℕ) → rowCode (rowOf (kindOf (getD t (4 * n) 0))) ≡ rowCode (rowAt t n)
-row-read t n = ap (λ (i : ℕ). rowCode (rowOf (kindOf (getD t i 0)))) (omega arith)

@@ -1,7 +1,7 @@
 -- A word's fault by its slot's number, as the code finds it, with the marks that it leaves.
 use mathlib.Core.Path.{_≡_, refl, ap, sym, _∙_}
 use mathlib.Core.Bool.{Bool, true, false}
-use mathlib.Core.List.{List, [], _∷_, _++_, append-assoc}
+use mathlib.Core.List.{List, [], _∷_, _++_}
 use Prim.Native.Nat.{ℕ, _+_, _*_, _/_, _%_, _<_, _≤_, min}
 use native.Mathlib.Omega.{arith}
 use lib.Dec.{eqb}
@@ -10,26 +10,29 @@ use borrow.Author.Tests.{eq-eqb, ne-eqb, lt-ltb, le-ltb}
 use Rattle.rules.specs.Refusal.{fine}
 use Rattle.rules.specs.Table.{field, kindOf, rowOf, rowAt, rank, Slot, unused, any, var, child, wordFault, nodeFault, childIn, children}
 use Rattle.rules.proofs.TableLaws.{word-most}
-use Rattle.table.specs.Marks.{slotCode, rowCode, bump, bumps, Placed, LastTwo, Walked}
+use Rattle.table.specs.Marks.{slotCode, rowCode, bump, bumps, Placed, Walked}
 use Rattle.table.proofs.MarkLaws.{bumps-append}
 use Rattle.table.proofs.RowLaws.{row-class, row-p, row-q, row-r, rank-small, slot-unused, slot-child}
 
--- what the digits of a node's row are
-module _ (t : List ℕ) (n row : ℕ) (read : row ≡ rowCode (rowAt t n)) where
+-- the row that the code reads
+pub row-at : (t : List ℕ) (n x : ℕ) → x ≡ rowCode (rowOf (kindOf (getD t (4 * n) 0))) → x ≡ rowCode (rowAt t n)
+row-at t n x e = e ∙ ap (λ (i : ℕ). rowCode (rowOf (kindOf (getD t i 0)))) (omega arith)
+
+module _ (t : List ℕ) (n row : ℕ) (read : row ≡ rowCode (rowOf (kindOf (getD t (4 * n) 0)))) where
   pub class-here : rank (rowAt t n .class) ≡ row / 4096
-  class-here = sym (row-class (rowAt t n)) ∙ ap (λ (x : ℕ). x / 4096) (sym read)
+  class-here = sym (row-class (rowAt t n)) ∙ ap (λ (x : ℕ). x / 4096) (sym (row-at t n row read))
 
   pub slot-p : slotCode (rowAt t n .p) ≡ row / 256 % 16
-  slot-p = sym (row-p (rowAt t n)) ∙ ap (λ (x : ℕ). x / 256 % 16) (sym read)
+  slot-p = sym (row-p (rowAt t n)) ∙ ap (λ (x : ℕ). x / 256 % 16) (sym (row-at t n row read))
 
   pub slot-q : slotCode (rowAt t n .q) ≡ row / 16 % 16
-  slot-q = sym (row-q (rowAt t n)) ∙ ap (λ (x : ℕ). x / 16 % 16) (sym read)
+  slot-q = sym (row-q (rowAt t n)) ∙ ap (λ (x : ℕ). x / 16 % 16) (sym (row-at t n row read))
 
   pub slot-r : slotCode (rowAt t n .r) ≡ row % 16
-  slot-r = sym (row-r (rowAt t n)) ∙ ap (λ (x : ℕ). x % 16) (sym read)
+  slot-r = sym (row-r (rowAt t n)) ∙ ap (λ (x : ℕ). x % 16) (sym (row-at t n row read))
 
 module _ (t : List ℕ) (n w : ℕ) (s : Slot) (m : List ℕ) where
-  module _ (k row : ℕ) (e : slotCode s ≡ k) (h : k < 4) (read : row ≡ rowCode (rowAt t w)) where
+  module _ (k row : ℕ) (e : slotCode s ≡ k) (h : k < 4) (read : row ≡ rowCode (rowOf (kindOf (getD t (4 * w) 0)))) where
     pub child-right : (m′ : List ℕ) → w < n → row / 4096 ≡ k → m′ ≡ bump m w → Placed t n s w m 99 m′
     unfolding wordFault childIn bumps
     child-right m′ l c f =
@@ -72,40 +75,25 @@ module _ (t : List ℕ) (n w k g : ℕ) (m : List ℕ) (h : 4 ≤ k) (most : Gre
 
 -- ---- a node
 
-module _ (t : List ℕ) (n : ℕ) where
-  pub last-two : (q r : ℕ) (m m₁ m₂ : List ℕ) → Placed t n (rowAt t n .q) (field t n 2) m q m₁ → Placed t n (rowAt t n .r) (field t n 3) m₁ r m₂
-      → LastTwo t n m (min q r) m₂
-  last-two q r m m₁ m₂ a b =
-      let qf : q ≤ fine = rw (a .fault) (word-most t n (rowAt t n .q) (field t n 2)) in
-      let rf : r ≤ fine = rw (b .fault) (word-most t n (rowAt t n .r) (field t n 3)) in
-      record {
-        fault = rw (a .fault, b .fault);
-        marked = λ e.
-            b .marked (omega arith)
-            ∙ rw (a .marked (omega arith)) (sym (bumps-append m (childIn (rowAt t n .q) (field t n 2)) (childIn (rowAt t n .r) (field t n 3))));
-      }
-
-  pub last-most : (m : List ℕ) (f : ℕ) (m′ : List ℕ) → LastTwo t n m f m′ → f ≤ fine
-  last-most m f m′ b = omega (arith, word-most t n (rowAt t n .q) (field t n 2), b .fault)
-
-module _ (t : List ℕ) (n row : ℕ) (read : row ≡ rowCode (rowAt t n)) where
+module _ (t : List ℕ) (n row : ℕ) (read : row ≡ rowCode (rowOf (kindOf (getD t (4 * n) 0)))) where
   pub node-unknown : (m : List ℕ) → row / 4096 ≡ 3 → Walked t n m 2 m
   unfolding nodeFault
   node-unknown m e = record { fault = rw (class-here t n row read ∙ e); marked = λ q. absurd (omega arith) }
 
-  -- p, and the words q and r together
-  pub node-words : (p f : ℕ) (m m₁ m₂ : List ℕ) → (row / 4096 ≡ 3 → ⊥) → Placed t n (rowAt t n .p) (field t n 1) m p m₁
-      → LastTwo t n m₁ f m₂ → Walked t n m (min p f) m₂
+  pub node-words : (p q r : ℕ) (m m₁ m₂ m₃ : List ℕ) → (row / 4096 ≡ 3 → ⊥) → Placed t n (rowAt t n .p) (field t n 1) m p m₁
+      → Placed t n (rowAt t n .q) (field t n 2) m₁ q m₂ → Placed t n (rowAt t n .r) (field t n 3) m₂ r m₃ → Walked t n m (min p (min q r)) m₃
   unfolding nodeFault children
-  node-words p f m m₁ m₂ ne a b =
-      let ps = childIn (rowAt t n .p) (field t n 1) in
-      let qs = childIn (rowAt t n .q) (field t n 2) in
-      let rs = childIn (rowAt t n .r) (field t n 3) in
-      let pf : p ≤ fine = rw (a .fault) (word-most t n (rowAt t n .p) (field t n 1)) in
-      let ff : f ≤ fine = last-most t n m₁ f m₂ b in
+  node-words p q r m m₁ m₂ m₃ ne a b c =
+      let P = rowAt t n .p in
+      let Q = rowAt t n .q in
+      let R = rowAt t n .r in
+      let pf : p ≤ fine = rw (a .fault) (word-most t n P (field t n 1)) in
+      let qf : q ≤ fine = rw (b .fault) (word-most t n Q (field t n 2)) in
+      let rf : r ≤ fine = rw (c .fault) (word-most t n R (field t n 3)) in
       record {
-        fault = rw (ne-eqb (rank (rowAt t n .class)) 3 (λ e. ne (sym (class-here t n row read) ∙ e)), a .fault, b .fault);
+        fault = rw (ne-eqb (rank (rowAt t n .class)) 3 (λ e. ne (sym (class-here t n row read) ∙ e)), a .fault, b .fault, c .fault);
         marked = λ e.
-            b .marked (omega arith)
-            ∙ rw (a .marked (omega arith)) (sym (bumps-append m ps (qs ++ rs)) ∙ ap (bumps m) (sym (append-assoc ps qs rs)));
+            c .marked (omega arith)
+            ∙ rw (b .marked (omega arith), a .marked (omega arith))
+            (rw (bumps-append m (childIn P (field t n 1) ++ childIn Q (field t n 2)) (childIn R (field t n 3)), bumps-append m (childIn P (field t n 1)) (childIn Q (field t n 2))));
       }

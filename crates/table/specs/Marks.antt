@@ -1,11 +1,11 @@
 -- What the check keeps: the rows of 01's table as numbers, and the marks of the children named so far.
 use Prim.Native.Nat.{ℕ, _+_, _*_, _<_, _≤_, min}
 use mathlib.Core.Path.{_≡_}
-use mathlib.Core.List.{List, [], _∷_, _++_}
+use mathlib.Core.List.{List, [], _∷_}
 use lib.ListN.{getD, set, replicate}
 use Rattle.rules.specs.Lists.{joined}
 use Rattle.rules.specs.Refusal.{fine}
-use Rattle.rules.specs.Table.{field, nodes, kindOf, rowOf, rowAt, Row, rank, Slot, unused, any, var, child, wordFault, nodeFault, childIn, children}
+use Rattle.rules.specs.Table.{nodes, kindOf, rowOf, Row, rank, Slot, unused, any, var, child, wordFault, nodeFault, childIn, children}
 
 -- a slot as a number: a child is the rank of its class
 unfoldable pub slotCode : Slot → ℕ
@@ -43,11 +43,6 @@ pub record Within (t : List ℕ) (n : ℕ) : Type 0 where
 pub record Placed (t : List ℕ) (n : ℕ) (s : Slot) (w : ℕ) (m : List ℕ) (r : ℕ) (m′ : List ℕ) : Type 0 where
   pub fault : r ≡ wordFault t n s w
   pub marked : r ≡ fine → m′ ≡ bumps m (childIn s w)
-
--- the same of the words q and r of a node together
-pub record LastTwo (t : List ℕ) (n : ℕ) (m : List ℕ) (r : ℕ) (m′ : List ℕ) : Type 0 where
-  pub fault : r ≡ min (wordFault t n (rowAt t n .q) (field t n 2)) (wordFault t n (rowAt t n .r) (field t n 3))
-  pub marked : r ≡ fine → m′ ≡ bumps m (childIn (rowAt t n .q) (field t n 2) ++ childIn (rowAt t n .r) (field t n 3))
 
 -- a node's fault is r, and where there is none its children are marked
 pub record Walked (t : List ℕ) (n : ℕ) (m : List ℕ) (r : ℕ) (m′ : List ℕ) : Type 0 where

@@ -10,9 +10,9 @@ ghost use lib.Dec.{eqb, ltb, leb};
 ghost use lib.ListN.{getD};
 ghost use Rattle.rules.specs.Lists.{joined};
 ghost use Rattle.rules.specs.Refusal.{fine, refuseLowest};
-ghost use Rattle.rules.specs.Table.{Slot, nodes, root, rowAt, nodeFault, childIn, children, deepest, depthAt};
+ghost use Rattle.rules.specs.Table.{Slot, nodes, root, nodeFault, childIn, children, deepest, depthAt};
 ghost use Rattle.table.specs.Checking.{answer, checking, treeRefusal, Sound};
-ghost use Rattle.table.specs.Marks.{slotCode, rowCode, Rows, bump, bumps, marksOf, Within, Placed, LastTwo, Walked};
+ghost use Rattle.table.specs.Marks.{slotCode, Rows, bump, bumps, marksOf, Within, Placed, Walked};
 
 // Marks k as a child: 1 for the first time, 2 for every later one.
 fn mark(marks: &mut [u8; 1024], k: usize)
@@ -33,7 +33,7 @@ fn child(t: &[u32], rows: &[u16; 37], n: usize, class: u16, w: u32, marks: &mut 
 {
     let k = w as usize;
     if k < n {
-        if rows::row_at(t, rows, k) / 4096 == class {
+        if rows::row_of(rows, t[4 * k]) / 4096 == class {
             mark(marks, k);
             99
         } else {
@@ -75,34 +75,20 @@ fn lower(a: u32, b: u32) -> u32
     if a < b { a } else { b }
 }
 
-// The lower fault of the words q and r of node n, which has this row, or 99.
-fn last_two(t: &[u32], rows: &[u16; 37], n: usize, row: u16, marks: &mut [u8; 1024]) -> u32
-    requires { ⌜ Within (now t) n × Rows (now rows) × (row ≡ rowCode (rowAt (now t) n)) ⌝ }
-    ensures { λ r. ⌜ LastTwo (now (t .entry)) n (now (marks .entry)) r (now (marks .exit)) ⌝ }
-{
-    let at = 4 * n;
-    let q = word(t, rows, n, row / 16 % 16, t[at + 2], marks);
-    if q == 99 {
-        return word(t, rows, n, row % 16, t[at + 3], marks);
-    }
-    lower(q, word(t, rows, n, row % 16, t[at + 3], marks))
-}
-
 // "the lowest number at a node first": 2 to 6 for node n, or 99; then its children are marked.
 fn node(t: &[u32], rows: &[u16; 37], n: usize, marks: &mut [u8; 1024]) -> u32
     requires { ⌜ Within (now t) n × Rows (now rows) ⌝ }
     ensures { λ r. ⌜ Walked (now (t .entry)) n (now (marks .entry)) r (now (marks .exit)) ⌝ }
 {
     let at = 4 * n;
-    let row = rows::row_at(t, rows, n);
+    let row = rows::row_of(rows, t[at]);
     if row / 4096 == 3 {
         return 2;
     }
     let p = word(t, rows, n, row / 256 % 16, t[at + 1], marks);
-    if p == 99 {
-        return last_two(t, rows, n, row, marks);
-    }
-    lower(p, last_two(t, rows, n, row, marks))
+    let q = word(t, rows, n, row / 16 % 16, t[at + 2], marks);
+    let r = word(t, rows, n, row % 16, t[at + 3], marks);
+    lower(p, lower(q, r))
 }
 
 // "Numbers 2 to 6 go node by node from 0": the first node with a fault. Where there is none, every child is marked.
@@ -141,8 +127,7 @@ fn first_not_one(marks: &[u8; 1024], root: usize) -> usize
     k
 }
 
-// Whether the word w in this slot is no child, or one at most this deep. A node is at most one deeper than its number, and a number
-// or a variable has depth 1.
+// Whether the word w in this slot is no child, or one at most this deep. A node is at most one deeper than its number.
 fn under(t: &[u32], rows: &[u16; 37], slot: u16, w: u32, budget: usize) -> bool
     requires { ⌜ Sound (now t) × Rows (now rows) × (slot < 4 → w < nodes (now t)) ⌝ }
     ensures { λ r. ⌜ ((s : Slot) → slotCode s ≡ slot → r ≡ leb (deepest (depthAt (now (t .entry))) (childIn s w)) budget) ⌝ }
@@ -153,9 +138,6 @@ fn under(t: &[u32], rows: &[u16; 37], slot: u16, w: u32, budget: usize) -> bool
     let k = w as usize;
     if k < budget {
         return true;
-    }
-    if t[4 * k] < 3 {
-        return 0 < budget;
     }
     shallow(t, rows, k, budget)
 }
@@ -174,7 +156,7 @@ fn shallow(t: &[u32], rows: &[u16; 37], top: usize, budget: usize) -> bool
         }
         left -= 1;
         let at = 4 * n;
-        let row = rows::row_at(t, rows, n);
+        let row = rows::row_of(rows, t[at]);
         if !under(t, rows, row / 16 % 16, t[at + 2], left) {
             return false;
         }
@@ -195,7 +177,7 @@ fn check_tree(t: &[u32], rows: &[u16; 37], marks: &[u8; 1024]) -> Checked
     ensures { λ r. ⌜ r ≡ answer (treeRefusal (now (t .entry))) ⌝ }
 {
     let root = t.len() / 4 - 1;
-    if rows::row_at(t, rows, root) / 4096 != 2 {
+    if rows::row_of(rows, t[4 * root]) / 4096 != 2 {
         return Checked::Refused(Refusal {
             number: 7,
             place: root as u32,

@@ -1,8 +1,7 @@
 // The rows of 01's table as numbers: four hexadecimal digits, the class of the kind and what its words p, q and r are. A class is
 // 0 arithmetic, 1 boolean, 2 statement or 3 none. A word is a child of one of these classes, 4 unused, 5 any number or 6 a variable.
 ghost use mathlib.Core.Path.{_≡_};
-ghost use Prim.Native.Nat.{_<_};
-ghost use Rattle.rules.specs.Table.{nodes, rowAt};
+ghost use Rattle.rules.specs.Table.{kindOf, rowOf};
 ghost use Rattle.table.specs.Marks.{rowCode, Rows};
 
 pub const ROWS: [u16; 37] = [
@@ -45,11 +44,11 @@ pub const ROWS: [u16; 37] = [
     0x2124, // 36 while
 ];
 
-// The row of node n. The rows are lent, so that they are laid down once for a whole check and not at every look.
-pub fn row_at(t: &[u32], rows: &[u16; 37], n: usize) -> u16
-    requires { ⌜ (n < nodes (now t)) × Rows (now rows) ⌝ }
-    ensures { λ r. ⌜ r ≡ rowCode (rowAt (now (t .entry)) n) ⌝ }
+// The table is lent, so that it is laid down once for a whole check and not at every look.
+pub fn row_of(rows: &[u16; 37], kind: u32) -> u16
+    requires { ⌜ Rows (now rows) ⌝ }
+    ensures { λ r. ⌜ r ≡ rowCode (rowOf (kindOf kind)) ⌝ }
 {
-    let k = t[4 * n] as usize;
+    let k = kind as usize;
     if k < 37 { rows[k] } else { 0x3444 }
 }

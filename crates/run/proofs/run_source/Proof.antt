@@ -13,7 +13,7 @@ use Rattle.run.specs.Ready.{Ready}
 use Rattle.run.specs.SourceRun.{sourceEnd}
 use Rattle.run.proofs.Checked.{accepted, refused}
 use Rattle.run.proofs.Statements.{ran-done, ran-spent, left-most}
-use Rattle.run.proofs.SourceLaws.{table-refused, store-refused, source-runs, ended-so}
+use Rattle.run.proofs.SourceLaws.{table-refused, store-refused, source-runs}
 use Rattle.run.proofs.run_source.Statement.{statement}
 use Rattle.run.proofs.run_source.Tie as tie
 use Rattle.run.proofs.run_source.Reads as reads
@@ -43,7 +43,7 @@ enum-known-checked c = search needs
 returns : tie.Need-returns
 returns c =
     let s = c .before .before .before .before .before in
-    ended-so (table-refused (s .args .table .now) (s .args .store .now) (s .args .fuel) (refused (s .args .table .now) (c .before .before .before .check .ensures) _ (c .before .checked .given .1)))
+    sym (table-refused (s .args .table .now) (s .args .store .now) (s .args .fuel) (refused (s .args .table .now) (c .before .before .before .check .ensures) _ (c .before .checked .given .1)))
 
 enum-told : tie.Need-enum-told
 enum-told c = search needs
@@ -51,7 +51,7 @@ enum-told c = search needs
 returns-2 : tie.Need-returns-2
 returns-2 c =
     let s = c .before .before .before .before .before in
-    ended-so (store-refused (s .args .table .now) (s .args .store .now) (s .args .fuel) (passed (c .before)) (c .if1 .taken))
+    sym (store-refused (s .args .table .now) (s .args .store .now) (s .args .fuel) (passed (c .before)) (c .if1 .taken))
 
 sub-root : tie.Need-sub-root
 sub-root c = omega (arith, facts (c .before) .some-nodes)
@@ -78,7 +78,7 @@ unfolding program sourceEnd
 returns-3 c =
     let branch = c .before .before .before .before .before .before in
     let s = branch .before .before .before .before .before in
-    ended-so
+    sym
     (source-runs (s .args .table .now) (s .args .store .now) (s .args .fuel) (passed (branch .before)) (length-32 branch)
     ∙ ap (sourceEnd (s .args .fuel)) (ran-done (c .before .before .before .before .exec .ensures) refl _ (c .before .left .given .1)))
 
@@ -90,7 +90,7 @@ unfolding program sourceEnd
 returns-4 c =
     let branch = c .before .before .before .before .before in
     let s = branch .before .before .before .before .before in
-    ended-so
+    sym
     (source-runs (s .args .table .now) (s .args .store .now) (s .args .fuel) (passed (branch .before)) (length-32 branch)
     ∙ ap (sourceEnd (s .args .fuel)) (ran-spent (c .before .before .before .exec .ensures) refl (c .enum-told2 .given .1)))
 
