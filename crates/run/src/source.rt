@@ -3,10 +3,15 @@ use crate::evaluate::arith;
 use crate::evaluate::boolean;
 use crate::evaluate::place;
 use crate::evaluate::word;
+use rules::Checked;
+use rules::Refusal;
+use rules::SourceRun;
 ghost use mathlib.Core.Path.{_≡_};
 ghost use Rattle.rules.specs.Table.{Kind, statement};
+ghost use Rattle.rules.specs.Answer.{ended};
 ghost use Rattle.run.specs.Ready.{Ready, Of};
 ghost use Rattle.run.specs.Source.{Ran, paid};
+ghost use Rattle.run.specs.SourceRun.{sourceRun};
 
 // What a statement leaves of its fuel, or that the fuel was spent before its end.
 pub enum Left {
@@ -97,4 +102,25 @@ fn repeat(t: &[u32], s: &mut [i32], n: usize, fuel: u32) -> Left
         }
     }
     Left::Spent
+}
+
+// Runs the statement of the table's root on the store, within fuel.
+pub fn run_source(table: &[u32], store: &mut [i32], fuel: u32) -> SourceRun
+    ensures { λ r. ⌜ ended r (now (store .exit)) ≡ sourceRun (now (table .entry)) (now (store .entry)) fuel ⌝ }
+{
+    let checked = table::check(table);
+    if let Checked::Refused(refusal) = checked {
+        return SourceRun::Refused(refusal);
+    }
+    if store.len() != 32 {
+        return SourceRun::Refused(Refusal {
+            number: 10,
+            place: 0,
+        });
+    }
+    let root = table.len() / 4 - 1;
+    match exec(table, store, root, fuel) {
+        Left::Units(left) => SourceRun::Finished(fuel - left),
+        Left::Spent => SourceRun::OutOfFuel(fuel),
+    }
 }

@@ -14,10 +14,10 @@ use Rattle.run.specs.SourceRun.{sourceEnd}
 use Rattle.run.proofs.Checked.{accepted, refused}
 use Rattle.run.proofs.Statements.{ran-done, ran-spent, left-most}
 use Rattle.run.proofs.SourceLaws.{table-refused, store-refused, source-runs}
-use Rattle.run.proofs.run_source.Statement.{statement}
-use Rattle.run.proofs.run_source.Tie as tie
-use Rattle.run.proofs.run_source.Reads as reads
-use Rattle.run.proofs.run_source.Lts as lts
+use Rattle.run.proofs.source.run_source.Statement.{statement}
+use Rattle.run.proofs.source.run_source.Tie as tie
+use Rattle.run.proofs.source.run_source.Reads as reads
+use Rattle.run.proofs.source.run_source.Lts as lts
 use Rattle.run.proofs.source.exec.Reads as exec-reads
 use Rattle.table.proofs.check.Reads as check-reads
 
