@@ -110,6 +110,9 @@ module _ (t : List ℕ) (start : ℕ) (room : List ℕ) where
           let z : _≡_ {A = ℕ} 0 1 = cc in
           absurd (omega arith)
 
+  pub done-unrefused : (m : Made) (after : List ℕ) → ended (Compiled.Done m) after ≡ compiling t start room → Unrefused t start (length room)
+  done-unrefused m after h = unrefused t start (length room) (done-as m after h .no-refusal)
+
   pub done-prescribed : (m : Made) (after : List ℕ) → ended (Compiled.Done m) after ≡ compiling t start room → Prescribed t start room m after
   done-prescribed m after h =
       let d = done-as m after h in
