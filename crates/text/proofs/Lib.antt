@@ -4,3 +4,4 @@ pub mod ReadSteps
 pub mod WriteSteps
 pub mod Endings
 pub mod RoundTrips
+pub mod Determined

@@ -2,7 +2,8 @@
 // The parts are over the number w of words in a frame; the calls are at four.
 ghost use mathlib.Core.Path.{_≡_};
 ghost use Rattle.rules.specs.Refusal.{refusal};
-ghost use Rattle.text.specs.Reading.{ended, reading, writing};
+ghost use Rattle.rules.specs.Answer.{ended};
+ghost use Rattle.text.specs.Reading.{reading, writing};
 use rules::Refusal;
 use rules::Text;
 

@@ -5,7 +5,8 @@ ghost use Prim.Native.Nat.{_+_, _*_, _<_, _≤_};
 ghost use lib.ListN.{length, take, drop};
 ghost use lib.Seq.{sets};
 ghost use Rattle.rules.specs.Text.{isDigit, digitValue, numberOf, lines, wordsOfText};
-ghost use Rattle.text.specs.Reading.{ended, reading};
+ghost use Rattle.rules.specs.Answer.{ended};
+ghost use Rattle.text.specs.Reading.{reading};
 ghost use Rattle.text.specs.Parts.{valueTable, lineAt, FirstFault, DigitsAt, wordsAt, CanRead};
 use rules::Text;
 

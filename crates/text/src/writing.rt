@@ -4,7 +4,8 @@ ghost use Prim.Native.Nat.{_+_, _*_, _<_, _≤_};
 ghost use lib.ListN.{length};
 ghost use lib.Seq.{sets};
 ghost use Rattle.rules.specs.Text.{digitsOf, textOf};
-ghost use Rattle.text.specs.Reading.{ended, writing};
+ghost use Rattle.rules.specs.Answer.{ended};
+ghost use Rattle.text.specs.Reading.{writing};
 ghost use Rattle.text.specs.Parts.{pairTable, digitsFrom, lineFrom, CanWrite};
 use rules::Text;
 
