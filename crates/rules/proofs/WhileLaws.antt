@@ -5,7 +5,7 @@ use mathlib.Core.Path.{_≡_, refl, sym, ap, subst, _∙_}
 use Prim.Native.Nat.{ℕ, zero, suc, _+_, _-_, _≤_, _<_}
 use native.Mathlib.Omega.{arith}
 use mathlib.Core.Bool.{Bool, true, false}
-use mathlib.Core.Logic.{_⊎_, inl, inr}
+use lib.ListN.{length, length-set}
 use Rattle.rules.specs.Expression.{Store}
 use Rattle.rules.specs.While.{Stm, skip, assign, seq, if, while, Meaning, Evaluates, assign-ns, skip-ns, comp-ns, if-tt-ns, if-ff-ns, while-tt-ns, while-ff-ns, count, Unfinished, at-assign, in-first, in-second, at-test, in-then, at-then-end, in-else, at-while-test, in-body, at-pass-end, in-next-pass, Outcome, done, stop, andThen, spend, passes, exec}
 
@@ -13,6 +13,11 @@ use Rattle.rules.specs.While.{Stm, skip, assign, seq, if, while, Meaning
 pub data Says (M : Meaning) (s : Stm) (n : ℕ) (σ : Store) : Outcome → Type 0 where
   evaluated : {σ′ : Store} (left : ℕ) (d : Evaluates M s σ σ′) → count d + left ≡ n → Says M s n σ (done σ′ left)
   unfinished : {σ′ : Store} → Unfinished M s σ n σ′ → Says M s n σ (stop σ′)
+
+-- the store that a run left
+abbrev pub storeOf : Outcome → Store
+storeOf (done σ left) = σ
+storeOf (stop σ) = σ
 
 -- no more fuel is left than there was
 pub data AtMost (n : ℕ) : Outcome → Type 0 where
@@ -107,6 +112,37 @@ module _ (M : Meaning) where
   -- a run leaves no more fuel than it had
   pub no-more-left : (s : Stm) (n : ℕ) (σ : Store) {m : ℕ} {σ′ : Store} → exec M s n σ ≡ done σ′ m → m ≤ n
   no-more-left s n σ e = left-over e (at-most (says s n σ))
+
+  -- ---- a run keeps the number of values in the store
+
+  pub evaluated-length : {s : Stm} {σ σ′ : Store} → Evaluates M s σ σ′ → length σ′ ≡ length σ
+  evaluated-length {σ = σ} assign-ns = length-set σ _ _
+  evaluated-length skip-ns = refl
+  evaluated-length (comp-ns d e) = evaluated-length e ∙ evaluated-length d
+  evaluated-length (if-tt-ns h d) = evaluated-length d
+  evaluated-length (if-ff-ns h d) = evaluated-length d
+  evaluated-length (while-tt-ns h d e) = evaluated-length e ∙ evaluated-length d
+  evaluated-length (while-ff-ns h) = refl
+
+  pub unfinished-length : {s : Stm} {σ σ′ : Store} {n : ℕ} → Unfinished M s σ n σ′ → length σ′ ≡ length σ
+  unfinished-length at-assign = refl
+  unfinished-length (in-first u) = unfinished-length u
+  unfinished-length (in-second d u) = unfinished-length u ∙ evaluated-length d
+  unfinished-length at-test = refl
+  unfinished-length (in-then h u) = unfinished-length u
+  unfinished-length (at-then-end h d) = evaluated-length d
+  unfinished-length (in-else h u) = unfinished-length u
+  unfinished-length at-while-test = refl
+  unfinished-length (in-body h u) = unfinished-length u
+  unfinished-length (at-pass-end h d) = evaluated-length d
+  unfinished-length (in-next-pass h d u) = unfinished-length u ∙ evaluated-length d
+
+  said-length : {s : Stm} {n : ℕ} {σ : Store} (o : Outcome) → Says M s n σ o → length (storeOf o) ≡ length σ
+  said-length (done σ′ left) (evaluated l d e) = evaluated-length d
+  said-length (stop σ′) (unfinished u) = unfinished-length u
+
+  pub run-length : (s : Stm) (n : ℕ) (σ : Store) → length (storeOf (exec M s n σ)) ≡ length σ
+  run-length s n σ = said-length (exec M s n σ) (says s n σ)
 
   -- ---- more passes than fuel change nothing
 

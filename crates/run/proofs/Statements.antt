@@ -5,12 +5,12 @@ use mathlib.Core.Bool.{Bool, true, false}
 use mathlib.Core.List.{List}
 use Prim.Native.Nat.{ℕ, zero, suc, _+_, _-_, _<_, _≤_}
 use native.Mathlib.Omega.{arith as linear}
-use lib.ListN.{set}
+use lib.ListN.{length, set}
 use Rattle.rules.specs.Expression.{Store}
 use Rattle.rules.specs.While.{Stm, Outcome, done, stop, andThen, spend, exec}
 use Rattle.rules.specs.Table.{Kind, treeBy, treeAt, stmOf, meaning}
 use Rattle.rules.proofs.TableLaws.{NodeAs, stm-as}
-use Rattle.rules.proofs.WhileLaws.{no-more-left, while-spent, while-ends, while-stops, while-owes, while-again}
+use Rattle.rules.proofs.WhileLaws.{storeOf, run-length, no-more-left, while-spent, while-ends, while-stops, while-owes, while-again}
 use Rattle.run.specs.declared.source.Left.{Left}
 use Rattle.run.specs.Source.{outcome, Ran, paid}
 
@@ -47,6 +47,12 @@ module _ {t : List ℕ} {v w f : ℕ} {σ σ₁ : Store} {r : Left} where
 -- it left no more than it had
 pub left-most : {t : List ℕ} {w f : ℕ} {σ σ₁ : Store} {r : Left} → Ran t w f σ r σ₁ → (left : ℕ) → r ≡ Left.Units left → left ≤ f
 left-most {t} {w} {f} {σ} e left u = no-more-left (meaning t) (stmOf (treeAt t w)) f σ (ran-done e refl left u)
+
+-- it kept the number of values
+pub ran-length : {t : List ℕ} {w f : ℕ} {σ σ₁ : Store} (r : Left) → Ran t w f σ r σ₁ → length σ₁ ≡ length σ
+unfolding outcome
+ran-length {t} {w} {f} {σ} (Left.Units left) e = ap (λ o. length (storeOf o)) (e .is) ∙ run-length (meaning t) (stmOf (treeAt t w)) f σ
+ran-length {t} {w} {f} {σ} Left.Spent e = ap (λ o. length (storeOf o)) (e .is) ∙ run-length (meaning t) (stmOf (treeAt t w)) f σ
 
 -- and what a test of the child w told
 pub tested : (t : List ℕ) {v w : ℕ} (σ : Store) {b d : Bool} → b ≡ meaning t .holds w σ → w ≡ v → b ≡ d → meaning t .holds v σ ≡ d

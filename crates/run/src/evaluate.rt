@@ -5,7 +5,7 @@ ghost use lib.ListN.{length};
 ghost use Rattle.rules.specs.Expression.{apply as applied, holds as held};
 ghost use Rattle.rules.specs.Table.{field, meaning, arithmetic, boolean as booleans};
 ghost use Rattle.rules.proofs.TableLaws.{operatorOf, relationOf};
-ghost use Rattle.run.specs.Ready.{Ready, Inner};
+ghost use Rattle.run.specs.Ready.{Ready, Leaf};
 
 // Word i of node n.
 pub fn word(t: &[u32], n: usize, i: usize) -> u32
@@ -49,41 +49,54 @@ fn compare(k: u32, a: i32, b: i32) -> bool
     }
 }
 
-// The value of the arithmetic node n. A number or a variable is read here, so that an operand that is one costs no call.
-pub fn arith(t: &[u32], s: &[i32], n: usize) -> i32
-    requires { ⌜ Ready (now t) (now s) n arithmetic ⌝ }
+// The value of the number or variable n, of kind k.
+fn leaf(t: &[u32], s: &[i32; 32], n: usize, k: u32) -> i32
+    requires { ⌜ Leaf (now t) n k ⌝ }
+    ensures { λ r. ⌜ r ≡ meaning (now (t .entry)) .arith n (now (s .entry)) ⌝ }
+{
+    if k == 1 {
+        return value::of_word(word(t, n, 1));
+    }
+    let x = place(t, n, 1);
+    s[x]
+}
+
+// The value of the arithmetic node n.
+pub fn arith(t: &[u32], s: &[i32; 32], n: usize) -> i32
+    requires { ⌜ Ready (now t) n arithmetic ⌝ }
     ensures { λ r. ⌜ r ≡ meaning (now (t .entry)) .arith n (now (s .entry)) ⌝ }
 {
     let k = word(t, n, 0);
-    match k {
-        1 => value::of_word(word(t, n, 1)),
-        2 => {
-            let x = place(t, n, 1);
-            s[x]
-        }
-        _ => operation(t, s, n, k),
+    if k <= 2 {
+        return leaf(t, s, n, k);
     }
-}
-
-// The value of the arithmetic node n of kind k, 3 to 8.
-fn operation(t: &[u32], s: &[i32], n: usize, k: u32) -> i32
-    requires { ⌜ Inner (now t) (now s) n k ⌝ }
-    ensures { λ r. ⌜ r ≡ meaning (now (t .entry)) .arith n (now (s .entry)) ⌝ }
-{
     if k == 8 {
         if boolean(t, s, place(t, n, 1)) {
-            return arith(t, s, place(t, n, 2));
+            return operand(t, s, place(t, n, 2));
         }
-        return arith(t, s, place(t, n, 3));
+        return operand(t, s, place(t, n, 3));
     }
-    let a = arith(t, s, place(t, n, 1));
-    let b = arith(t, s, place(t, n, 2));
+    let a = operand(t, s, place(t, n, 1));
+    let b = operand(t, s, place(t, n, 2));
     apply(k, a, b)
 }
 
+// The same. Most operands are numbers and variables, which are read without a call of `arith`.
+fn operand(t: &[u32], s: &[i32; 32], n: usize) -> i32
+    requires { ⌜ Ready (now t) n arithmetic ⌝ }
+    ensures { λ r. ⌜ r ≡ meaning (now (t .entry)) .arith n (now (s .entry)) ⌝ }
+{
+    let k = word(t, n, 0);
+    if k <= 2 {
+        leaf(t, s, n, k)
+    } else {
+        arith(t, s, n)
+    }
+}
+
 // The truth of the boolean node n.
-pub fn boolean(t: &[u32], s: &[i32], n: usize) -> bool
-    requires { ⌜ Ready (now t) (now s) n booleans ⌝ }
+pub fn boolean(t: &[u32], s: &[i32; 32], n: usize) -> bool
+    requires { ⌜ Ready (now t) n booleans ⌝ }
     ensures { λ r. ⌜ r ≡ meaning (now (t .entry)) .holds n (now (s .entry)) ⌝ }
 {
     let k = word(t, n, 0);
@@ -97,8 +110,8 @@ pub fn boolean(t: &[u32], s: &[i32], n: usize) -> bool
             a & b
         }
         _ => {
-            let a = arith(t, s, place(t, n, 1));
-            let b = arith(t, s, place(t, n, 2));
+            let a = operand(t, s, place(t, n, 1));
+            let b = operand(t, s, place(t, n, 2));
             compare(k, a, b)
         }
     }

@@ -3,6 +3,8 @@ use crate::evaluate::arith;
 use crate::evaluate::boolean;
 use crate::evaluate::place;
 use crate::evaluate::word;
+use crate::store::put_back;
+use crate::store::taken;
 use rules::Checked;
 use rules::Refusal;
 use rules::SourceRun;
@@ -31,8 +33,8 @@ fn pay(fuel: u32) -> Left
 }
 
 // The assign of node n.
-fn assign(t: &[u32], s: &mut [i32], n: usize, fuel: u32) -> Left
-    requires { ⌜ Of (now t) (now s) n Kind.assign ⌝ }
+fn assign(t: &[u32], s: &mut [i32; 32], n: usize, fuel: u32) -> Left
+    requires { ⌜ Of (now t) n Kind.assign ⌝ }
     ensures { λ r. ⌜ Ran (now (t .entry)) n fuel (now (s .entry)) r (now (s .exit)) ⌝ }
 {
     if fuel == 0 {
@@ -44,8 +46,8 @@ fn assign(t: &[u32], s: &mut [i32], n: usize, fuel: u32) -> Left
 }
 
 // The statement of node n.
-pub fn exec(t: &[u32], s: &mut [i32], n: usize, fuel: u32) -> Left
-    requires { ⌜ Ready (now t) (now s) n statement ⌝ }
+pub fn exec(t: &[u32], s: &mut [i32; 32], n: usize, fuel: u32) -> Left
+    requires { ⌜ Ready (now t) n statement ⌝ }
     ensures { λ r. ⌜ Ran (now (t .entry)) n fuel (now (s .entry)) r (now (s .exit)) ⌝ }
 {
     let k = word(t, n, 0);
@@ -62,8 +64,8 @@ pub fn exec(t: &[u32], s: &mut [i32], n: usize, fuel: u32) -> Left
 }
 
 // The if of node n.
-fn branch(t: &[u32], s: &mut [i32], n: usize, fuel: u32) -> Left
-    requires { ⌜ Of (now t) (now s) n Kind.if ⌝ }
+fn branch(t: &[u32], s: &mut [i32; 32], n: usize, fuel: u32) -> Left
+    requires { ⌜ Of (now t) n Kind.if ⌝ }
     ensures { λ r. ⌜ Ran (now (t .entry)) n fuel (now (s .entry)) r (now (s .exit)) ⌝ }
 {
     if fuel == 0 {
@@ -80,8 +82,8 @@ fn branch(t: &[u32], s: &mut [i32], n: usize, fuel: u32) -> Left
 }
 
 // The while of node n: a turn of the loop is a test, and a pass where it holds.
-fn repeat(t: &[u32], s: &mut [i32], n: usize, fuel: u32) -> Left
-    requires { ⌜ Of (now t) (now s) n Kind.while ⌝ }
+fn repeat(t: &[u32], s: &mut [i32; 32], n: usize, fuel: u32) -> Left
+    requires { ⌜ Of (now t) n Kind.while ⌝ }
     ensures { λ r. ⌜ Ran (now (t .entry)) n fuel (now (s .entry)) r (now (s .exit)) ⌝ }
 {
     let b = place(t, n, 1);
@@ -119,8 +121,11 @@ pub fn run_source(table: &[u32], store: &mut [i32], fuel: u32) -> SourceRun
         });
     }
     let root = table.len() / 4 - 1;
-    match exec(table, store, root, fuel) {
-        Left::Units(left) => SourceRun::Finished(fuel - left),
+    let mut values = taken(store);
+    let left = exec(table, &mut values, root, fuel);
+    put_back(store, &values);
+    match left {
+        Left::Units(more) => SourceRun::Finished(fuel - more),
         Left::Spent => SourceRun::OutOfFuel(fuel),
     }
 }

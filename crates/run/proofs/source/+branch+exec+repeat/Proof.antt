@@ -1,24 +1,21 @@
 -- The statements meet their contracts. They call each other on children, so the node's number falls; `exec` hands an if or a while on to
 -- its own function, so twice the number counts, and one more in `exec`. Each arm's whole effect is one law of Statements.
 use mathlib.Core.Path.{_≡_, refl, ap, sym, _∙_}
-use mathlib.Core.Bool.{Bool, true, false}
-use mathlib.Core.List.{List}
 use Prim.Native.Nat.{ℕ, _+_, _*_, _-_, _<_, _≤_}
 use native.Mathlib.Omega.{arith as linear}
 use lib.Dec.{lit<}
-use lib.ListN.{length}
 use borrow.Author.Needs.{needs}
 use borrow.Author.Tests.{not-true, not-false}
 use Rattle.rules.specs.Lists.{fetch}
-use Rattle.rules.specs.Expression.{Store}
-use Rattle.rules.specs.While.{Outcome, done, stop}
-use Rattle.rules.specs.Table.{Kind, field, kindOf, kindAt, rowOf, statement as statements, meaning}
-use Rattle.rules.proofs.TableLaws.{NodeAs, statement-range}
+use Rattle.rules.specs.Table.{Kind, field, kindOf, rowOf, statement as statements}
+use Rattle.rules.proofs.TableLaws.{statement-range}
 use Rattle.run.specs.Ready.{Ready, Of}
-use Rattle.run.specs.Source.{outcome, paid}
+use Rattle.run.specs.Source.{outcome}
 use Rattle.run.specs.declared.source.Left.{Left}
-use Rattle.run.proofs.Nodes.{word-inside, node, down, child-ready, other-store, of-kind}
-use Rattle.run.proofs.Statements.{Runs, left-most, ran-done, ran-spent, ran, tested, skip-runs, first-done, first-stopped, if-spent, if-false, if-stopped, if-then, loop-spent, loop-ends, loop-stopped, loop-owes, loop-again}
+use Rattle.run.proofs.Nodes.{As, word-inside, down, child-ready, of-kind}
+use Rattle.run.proofs.Statements.{Runs, left-most, ran-done, ran-spent, ran, tested}
+use Rattle.run.proofs.Statements.{skip-runs, first-done, first-stopped, if-spent, if-false, if-stopped, if-then}
+use Rattle.run.proofs.Statements.{loop-spent, loop-ends, loop-stopped, loop-owes, loop-again}
 use borrow.Fn.Kinds.{In}
 use borrow.Fn.PlainCycle.{Measures, is, falls, and}
 use Rattle.run.proofs.source.branch.Reads as branch
@@ -78,17 +75,13 @@ module _ (m : ℕ) where
   abbrev repeat-calls : repeat-lts.Claims
   repeat-calls = (place-reads.Asked, place-reads.Learnt, boolean-reads.Asked, boolean-reads.Learnt, exec-below m, exec.Post)
 
--- node n as its kind says, with its words as the table has them
-abbrev As : Kind → List ℕ → ℕ → Type 0
-As kind t n = NodeAs t n kind (field t n 1) (field t n 2) (field t n 3)
-
 -- ---- branch
 
 module _ (m : ℕ) where
   abbrev Start₁ : Type 0
   Start₁ = branch-lts.Start (branch-calls m) (branch-at m) branch.Post
 
-  ready₁ : (s : Start₁) → Ready (s .args .t .now) (s .args .s .now) (s .args .n) statements
+  ready₁ : (s : Start₁) → Ready (s .args .t .now) (s .args .n) statements
   ready₁ s = s .pre .1 .ready
 
   falls₁ : (s : Start₁) → 2 * s .args .n ≤ m
@@ -137,51 +130,38 @@ module _ (m : ℕ) where
   unfolding rowOf
   branch-exec-requires-2 c κs = let s = c .before .before .before .before .before .before .before .before in down (ready₁ s) (c .place3 .ensures) (as-if s .third) (falls₁ s)
 
-  branch-same-length : branch-lts.Need-same-length (branch-calls m) (branch-at m) branch.Post
-  branch-same-length c = search needs
-
   branch-returns-2 : branch-lts.Need-returns-2 (branch-calls m) (branch-at m) branch.Post
-  branch-returns-2 c =
-      let x = c .before .before .before .before .before in
+  branch-returns-2 c = 
+      let x = c .before .before .before .before in
       let test = x .before .before .before in
       let s = test .before .before .before .before .before .before in
-      record {
-        is =
-            rw (c .pay .ensures)
-            (sym (if-then (as-if s) (s .args .fuel) _ (s .args .s .now) _ (omega (linear, test .before .before .before .before .if1 .left))
-            (tested (s .args .t .now) (s .args .s .now) (test .before .boolean .ensures) (test .before .before .place .ensures) (test .if2 .taken))
-            (ran-done (x .exec .ensures) (x .before .place2 .ensures) _ (c .before .before .left .given .1))));
+      record { is =
+        rw (c .pay .ensures)
+        (sym (if-then (as-if s) (s .args .fuel) _ (s .args .s .now) _ (omega (linear, test .before .before .before .before .if1 .left))
+        (tested (s .args .t .now) (s .args .s .now) (test .before .boolean .ensures) (test .before .before .place .ensures) (test .if2 .taken))
+        (ran-done (x .exec .ensures) (x .before .place2 .ensures) _ (c .before .before .left .given .1))))
       }
-
-  branch-same-length-2 : branch-lts.Need-same-length-2 (branch-calls m) (branch-at m) branch.Post
-  branch-same-length-2 c = search needs
 
   branch-returns-3 : branch-lts.Need-returns-3 (branch-calls m) (branch-at m) branch.Post
   unfolding outcome
-  branch-returns-3 c =
-      let x = c .before .before .before in
+  branch-returns-3 c = 
+      let x = c .before .before in
       let test = x .before .before .before in
       let s = test .before .before .before .before .before .before in
-      record {
-        is =
-            sym (if-stopped (as-if s) (s .args .fuel) (s .args .s .now) _ (omega (linear, test .before .before .before .before .if1 .left))
-            (tested (s .args .t .now) (s .args .s .now) (test .before .boolean .ensures) (test .before .before .place .ensures) (test .if2 .taken))
-            (ran-spent (x .exec .ensures) (x .before .place2 .ensures) (c .enum-told .given .1)));
+      record { is =
+        sym (if-stopped (as-if s) (s .args .fuel) (s .args .s .now) _ (omega (linear, test .before .before .before .before .if1 .left))
+        (tested (s .args .t .now) (s .args .s .now) (test .before .boolean .ensures) (test .before .before .place .ensures) (test .if2 .taken))
+        (ran-spent (x .exec .ensures) (x .before .place2 .ensures) (c .enum-told .given .1)))
       }
 
-  branch-same-length-3 : branch-lts.Need-same-length-3 (branch-calls m) (branch-at m) branch.Post
-  branch-same-length-3 c = search needs
-
   branch-returns-4 : branch-lts.Need-returns-4 (branch-calls m) (branch-at m) branch.Post
-  branch-returns-4 c =
-      let x = c .before in
-      let test = x .before .before .before in
+  branch-returns-4 c = 
+      let test = c .before .before .before in
       let s = test .before .before .before .before .before .before in
-      record {
-        is =
-            ran (x .exec2 .ensures) (x .before .place3 .ensures)
-            ∙ sym (if-false (as-if s) (s .args .fuel) (s .args .s .now) (omega (linear, test .before .before .before .before .if1 .left))
-            (tested (s .args .t .now) (s .args .s .now) (test .before .boolean .ensures) (test .before .before .place .ensures) (test .if2 .left)));
+      record { is =
+        ran (c .exec2 .ensures) (c .before .place3 .ensures)
+        ∙ sym (if-false (as-if s) (s .args .fuel) (s .args .s .now) (omega (linear, test .before .before .before .before .if1 .left))
+        (tested (s .args .t .now) (s .args .s .now) (test .before .boolean .ensures) (test .before .before .place .ensures) (test .if2 .left)))
       }
 
 -- ---- exec
@@ -190,17 +170,18 @@ module _ (m : ℕ) where
   abbrev Worded : Type 0
   Worded = exec-lts.After-word (exec-calls m) (exec-at m) exec.Post
 
-  ready₂ : (w : Worded) → Ready (w .before .before .args .t .now) (w .before .before .args .s .now) (w .before .before .args .n) statements
+  ready₂ : (w : Worded) → Ready (w .before .before .args .t .now) (w .before .before .args .n) statements
   ready₂ w = w .before .before .pre .1
 
   falls₂ : (w : Worded) → 2 * w .before .before .args .n ≤ m
   falls₂ w = omega (linear, w .before .before .pre .0)
 
   -- the node's kind, by the number that was read
-  kind-is : (w : Worded) (kind : Kind) → kindOf (w .word .result) ≡ kind → Of (w .before .before .args .t .now) (w .before .before .args .s .now) (w .before .before .args .n) kind
+  kind-is : (w : Worded) (kind : Kind) → kindOf (w .word .result) ≡ kind → Of (w .before .before .args .t .now) (w .before .before .args .n) kind
   kind-is w kind e = record { ready = ready₂ w; kind = ap kindOf (sym (w .word .ensures)) ∙ e }
 
-  as-sequence : (c : exec-lts.At-match-keys3 (exec-calls m) (exec-at m) exec.Post) → As Kind.sequence (c .before .before .before .args .t .now) (c .before .before .before .args .n)
+  as-sequence : (c : exec-lts.At-match-keys3 (exec-calls m) (exec-at m) exec.Post)
+      → As Kind.sequence (c .before .before .before .args .t .now) (c .before .before .before .args .n)
   unfolding kindOf fetch
   as-sequence c = of-kind (kind-is (c .before) Kind.sequence (ap kindOf (c .match .keys3)))
 
@@ -222,13 +203,11 @@ module _ (m : ℕ) where
   exec-enum-known-left c = search needs
 
   exec-place-requires-2 : exec-lts.Need-place-requires-2 (exec-calls m) (exec-at m) exec.Post
-  exec-place-requires-2 c κs = word-inside (ready₂ (c .before .before .before .before .before .before .before .before .before)) 2 (lit< tt)
+  exec-place-requires-2 c κs = word-inside (ready₂ (c .before .before .before .before .before .before .before .before)) 2 (lit< tt)
 
   exec-exec-requires-2 : exec-lts.Need-exec-requires-2 (exec-calls m) (exec-at m) exec.Post
   unfolding rowOf
-  exec-exec-requires-2 c κs =
-      let w = c .before .before .before .before .before .before .before .before .before .before in
-      down (other-store (ready₂ w) (c .before .before .before .before .before .before .exec .kept .1 .0)) (c .place2 .ensures) (as-sequence (c .before .before .before .before .before .before .before .before .before) .second) (falls₂ w)
+  exec-exec-requires-2 c κs = let w = c .before .before .before .before .before .before .before .before .before in down (ready₂ w) (c .place2 .ensures) (as-sequence (c .before .before .before .before .before .before .before .before) .second) (falls₂ w)
 
   exec-enum-told : exec-lts.Need-enum-told (exec-calls m) (exec-at m) exec.Post
   exec-enum-told c = search needs
@@ -239,7 +218,7 @@ module _ (m : ℕ) where
 
   exec-repeat-requires : exec-lts.Need-repeat-requires (exec-calls m) (exec-at m) exec.Post
   unfolding kindOf fetch
-  exec-repeat-requires c κs =
+  exec-repeat-requires c κs = 
       let w = c .before .before in
       let range = statement-range (field (w .before .before .args .t .now) (w .before .before .args .n) 0) (ready₂ w .class) in
       let last : w .word .result ≡ 36 = omega (linear, w .word .ensures, range .0, range .1) in
@@ -249,50 +228,39 @@ module _ (m : ℕ) where
   unfolding kindOf fetch outcome
   exec-returns c = record { is = sym (skip-runs (of-kind (kind-is (c .before) Kind.skip (ap kindOf (c .match .keys1)))) _ _) }
 
-  exec-same-length : exec-lts.Need-same-length (exec-calls m) (exec-at m) exec.Post
-  exec-same-length c = search needs
-
   exec-returns-2 : exec-lts.Need-returns-2 (exec-calls m) (exec-at m) exec.Post
-  exec-returns-2 c = c .before .assign .ensures
-
-  exec-same-length-2 : exec-lts.Need-same-length-2 (exec-calls m) (exec-at m) exec.Post
-  exec-same-length-2 c = search needs
+  exec-returns-2 c = c .assign .ensures
 
   exec-returns-3 : exec-lts.Need-returns-3 (exec-calls m) (exec-at m) exec.Post
-  exec-returns-3 c =
-      let x = c .before .before .before .before .before .before .before .before in
-      let w = c .before .before .before .before .before .before .before .before .before .before .before .before in
-      record {
-        is =
-            ran (c .before .exec2 .ensures) (c .before .before .place2 .ensures)
-            ∙ sym (first-done (as-sequence (c .before .before .before .before .before .before .before .before .before .before .before)) (w .before .before .args .fuel) _ _ _ (ran-done (x .exec .ensures) (c .before .before .before .before .before .before .before .before .before .place .ensures) _ (c .before .before .before .before .before .left .given .1)));
+  exec-returns-3 c = 
+      let x = c .before .before .before .before .before .before in
+      let w = c .before .before .before .before .before .before .before .before .before .before in
+      record { is =
+        ran (c .exec2 .ensures) (c .before .place2 .ensures)
+        ∙ sym (first-done (as-sequence (c .before .before .before .before .before .before .before .before .before)) (w .before .before .args .fuel) _ _ _
+        (ran-done (x .exec .ensures) (x .before .place .ensures) _ (c .before .before .before .before .left .given .1)))
       }
-
-  exec-same-length-3 : exec-lts.Need-same-length-3 (exec-calls m) (exec-at m) exec.Post
-  exec-same-length-3 c = search needs
 
   exec-returns-4 : exec-lts.Need-returns-4 (exec-calls m) (exec-at m) exec.Post
   unfolding outcome
-  exec-returns-4 c =
-      let w = c .before .before .before .before .before .before .before in
-      record { is = sym (first-stopped (as-sequence (c .before .before .before .before .before .before)) (w .before .before .args .fuel) _ _ (ran-spent (c .before .before .before .exec .ensures) (c .before .before .before .before .place .ensures) (c .enum-told .given .1))) }
-
-  exec-same-length-4 : exec-lts.Need-same-length-4 (exec-calls m) (exec-at m) exec.Post
-  exec-same-length-4 c = search needs
+  exec-returns-4 c = 
+      let x = c .before .before in
+      let w = c .before .before .before .before .before .before in
+      record { is =
+        sym (first-stopped (as-sequence (c .before .before .before .before .before)) (w .before .before .args .fuel) _ _
+        (ran-spent (x .exec .ensures) (x .before .place .ensures) (c .enum-told .given .1)))
+      }
 
   exec-returns-5 : exec-lts.Need-returns-5 (exec-calls m) (exec-at m) exec.Post
-  exec-returns-5 c = c .before .branch .ensures
-
-  exec-same-length-5 : exec-lts.Need-same-length-5 (exec-calls m) (exec-at m) exec.Post
-  exec-same-length-5 c = search needs
+  exec-returns-5 c = c .branch .ensures
 
   exec-returns-6 : exec-lts.Need-returns-6 (exec-calls m) (exec-at m) exec.Post
-  exec-returns-6 c = c .before .repeat .ensures
+  exec-returns-6 c = c .repeat .ensures
 
 -- ---- repeat
 
 abbrev repeat-Inv-loop : repeat-lts.InvT-loop
-repeat-Inv-loop t s₀ n fuel b body left₀ s left = (length s ≡ length s₀) × (left ≤ fuel) × (Runs t n fuel s₀ ≡ Runs t n left s)
+repeat-Inv-loop t s₀ n fuel b body left₀ s left = (left ≤ fuel) × (Runs t n fuel s₀ ≡ Runs t n left s)
 
 abbrev repeat-μ-loop : repeat-lts.MeasureT-loop
 repeat-μ-loop t s₀ n fuel b body left₀ s left = left
@@ -301,7 +269,7 @@ module _ (m : ℕ) where
   abbrev Start₃ : Type 0
   Start₃ = repeat-lts.Start (repeat-calls m) (repeat-at m) repeat.Post repeat-Inv-loop repeat-μ-loop
 
-  ready₃ : (s : Start₃) → Ready (s .args .t .now) (s .args .s .now) (s .args .n) statements
+  ready₃ : (s : Start₃) → Ready (s .args .t .now) (s .args .n) statements
   ready₃ s = s .pre .1 .ready
 
   falls₃ : (s : Start₃) → 2 * s .args .n ≤ m
@@ -317,99 +285,88 @@ module _ (m : ℕ) where
   repeat-place-requires-2 c κs = word-inside (ready₃ (c .before .before)) 2 (lit< tt)
 
   repeat-loop-holds : repeat-lts.Need-loop-holds (repeat-calls m) (repeat-at m) repeat.Post repeat-Inv-loop repeat-μ-loop
-  repeat-loop-holds c = (refl, omega linear, refl)
+  repeat-loop-holds c = (omega linear, refl)
 
   repeat-boolean-requires : repeat-lts.Need-boolean-requires (repeat-calls m) (repeat-at m) repeat.Post repeat-Inv-loop repeat-μ-loop
   unfolding rowOf
-  repeat-boolean-requires c κs = let s = c .before .before .before .before .before .before in child-ready (other-store (ready₃ s) (c .before .before .loop .inv .0)) (c .before .before .before .before .place .ensures) (as-while s .first)
+  repeat-boolean-requires c κs = let s = c .before .before .before .before .before .before in child-ready (ready₃ s) (c .before .before .before .before .place .ensures) (as-while s .first)
 
-  repeat-sub-t13 : repeat-lts.Need-sub-t13 (repeat-calls m) (repeat-at m) repeat.Post repeat-Inv-loop repeat-μ-loop
-  repeat-sub-t13 c = omega linear
-
-  repeat-same-length : repeat-lts.Need-same-length (repeat-calls m) (repeat-at m) repeat.Post repeat-Inv-loop repeat-μ-loop
-  repeat-same-length c = search needs
+  repeat-sub-t12 : repeat-lts.Need-sub-t12 (repeat-calls m) (repeat-at m) repeat.Post repeat-Inv-loop repeat-μ-loop
+  repeat-sub-t12 c = omega linear
 
   repeat-returns : repeat-lts.Need-returns (repeat-calls m) (repeat-at m) repeat.Post repeat-Inv-loop repeat-μ-loop
   unfolding outcome
-  repeat-returns c =
+  repeat-returns c = 
+      let test = c in
       let l = c .before .before .before .before in
       let s = l .before .before .before .before in
-      record { is = sym (l .loop .inv .2 ∙ loop-ends (as-while s) (l .loop .left) (l .loop .s) (omega linear) (tested (s .args .t .now) (l .loop .s) (c .before .boolean .ensures) (l .before .before .place .ensures) (not-true _ (c .if1 .taken)))) }
+      record { is =
+        sym (l .loop .inv .1 ∙ loop-ends (as-while s) (l .loop .left) (l .loop .s) (omega linear) (tested (s .args .t .now) (l .loop .s) (test .before .boolean .ensures) (l .before .before .place .ensures) (not-true _ (c .if1 .taken))))
+      }
 
   repeat-sub-exec : repeat-lts.Need-sub-exec (repeat-calls m) (repeat-at m) repeat.Post repeat-Inv-loop repeat-μ-loop
   repeat-sub-exec c = omega linear
 
   repeat-exec-requires : repeat-lts.Need-exec-requires (repeat-calls m) (repeat-at m) repeat.Post repeat-Inv-loop repeat-μ-loop
   unfolding rowOf
-  repeat-exec-requires c κs = let s = c .before .before .before .before .before .before .before .before .before in down (other-store (ready₃ s) (c .before .before .before .before .before .loop .inv .0)) (c .before .before .before .before .before .before .place2 .ensures) (as-while s .second) (falls₃ s)
+  repeat-exec-requires c κs = let s = c .before .before .before .before .before .before .before .before .before in down (ready₃ s) (c .before .before .before .before .before .before .place2 .ensures) (as-while s .second) (falls₃ s)
 
   repeat-enum-known-more : repeat-lts.Need-enum-known-more (repeat-calls m) (repeat-at m) repeat.Post repeat-Inv-loop repeat-μ-loop
   repeat-enum-known-more c = search needs
 
-  repeat-same-length-2 : repeat-lts.Need-same-length-2 (repeat-calls m) (repeat-at m) repeat.Post repeat-Inv-loop repeat-μ-loop
-  repeat-same-length-2 c = search needs
-
   repeat-returns-2 : repeat-lts.Need-returns-2 (repeat-calls m) (repeat-at m) repeat.Post repeat-Inv-loop repeat-μ-loop
   unfolding outcome
-  repeat-returns-2 c =
-      let x = c .before .before .before .before .before in
+  repeat-returns-2 c = 
+      let x = c .before .before .before .before in
       let test = x .before .before in
       let l = test .before .before .before .before in
       let s = l .before .before .before .before in
-      record {
-        is = sym (l .loop .inv .2 ∙ loop-owes (as-while s) (l .loop .left) (l .loop .s) _ (omega linear)
-            (tested (s .args .t .now) (l .loop .s) (test .before .boolean .ensures) (l .before .before .place .ensures) (not-false _ (test .if1 .left)))
-            (ran-done (x .exec .ensures) (l .before .place2 .ensures) 0 (c .before .before .more .given .1 ∙ ap Left.Units (c .if2 .taken))));
+      record { is =
+        sym (l .loop .inv .1 ∙ loop-owes (as-while s) (l .loop .left) (l .loop .s) _ (omega linear) (tested (s .args .t .now) (l .loop .s) (test .before .boolean .ensures) (l .before .before .place .ensures) (not-false _ (test .if1 .left)))
+        (ran-done (x .exec .ensures) (l .before .place2 .ensures) 0 (c .before .before .more .given .1 ∙ ap Left.Units (c .if2 .taken))))
       }
 
   repeat-sub-left : repeat-lts.Need-sub-left (repeat-calls m) (repeat-at m) repeat.Post repeat-Inv-loop repeat-μ-loop
   repeat-sub-left c = omega (linear, c .if2 .left)
 
   repeat-loop-less : repeat-lts.Need-loop-less (repeat-calls m) (repeat-at m) repeat.Post repeat-Inv-loop repeat-μ-loop
-  repeat-loop-less c = omega (linear, left-most (c .before .before .before .before .before .exec .ensures) _ (c .before .before .more .given .1))
+  repeat-loop-less c = omega (linear, left-most (c .before .before .before .before .exec .ensures) _ (c .before .before .more .given .1))
 
   repeat-loop-again : repeat-lts.Need-loop-again (repeat-calls m) (repeat-at m) repeat.Post repeat-Inv-loop repeat-μ-loop
-  repeat-loop-again c =
-      let x = c .before .before .before .before .before in
+  repeat-loop-again c = 
+      let x = c .before .before .before .before in
       let test = x .before .before in
       let l = test .before .before .before .before in
-      let s = l .before .before .before .before in (
-        x .exec .kept .1 .0 ∙ l .loop .inv .0,
-        omega (linear, l .loop .inv .1, left-most (x .exec .ensures) _ (c .before .before .more .given .1)),
-        l .loop .inv .2 ∙ loop-again (as-while s) (l .loop .left) _ (l .loop .s) _ (omega linear) (omega (linear, c .if2 .left))
-            (tested (s .args .t .now) (l .loop .s) (test .before .boolean .ensures) (l .before .before .place .ensures) (not-false _ (test .if1 .left)))
-            (ran-done (x .exec .ensures) (l .before .place2 .ensures) _ (c .before .before .more .given .1)),
-      )
+      let s = l .before .before .before .before in
+      (omega (linear, l .loop .inv .0, left-most (x .exec .ensures) _ (c .before .before .more .given .1)),
+      l .loop .inv .1
+      ∙ loop-again (as-while s) (l .loop .left) _ (l .loop .s) _ (omega linear) (omega (linear, c .if2 .left)) (tested (s .args .t .now) (l .loop .s) (test .before .boolean .ensures) (l .before .before .place .ensures) (not-false _ (test .if1 .left)))
+      (ran-done (x .exec .ensures) (l .before .place2 .ensures) _ (c .before .before .more .given .1)))
 
   repeat-enum-told : repeat-lts.Need-enum-told (repeat-calls m) (repeat-at m) repeat.Post repeat-Inv-loop repeat-μ-loop
   repeat-enum-told c = search needs
 
-  repeat-same-length-3 : repeat-lts.Need-same-length-3 (repeat-calls m) (repeat-at m) repeat.Post repeat-Inv-loop repeat-μ-loop
-  repeat-same-length-3 c = search needs
-
   repeat-returns-3 : repeat-lts.Need-returns-3 (repeat-calls m) (repeat-at m) repeat.Post repeat-Inv-loop repeat-μ-loop
   unfolding outcome
-  repeat-returns-3 c =
-      let x = c .before .before .before in
+  repeat-returns-3 c = 
+      let x = c .before .before in
       let test = x .before .before in
       let l = test .before .before .before .before in
       let s = l .before .before .before .before in
-      record {
-        is = sym (l .loop .inv .2 ∙ loop-stopped (as-while s) (l .loop .left) (l .loop .s) _ (omega linear)
-            (tested (s .args .t .now) (l .loop .s) (test .before .boolean .ensures) (l .before .before .place .ensures) (not-false _ (test .if1 .left)))
-            (ran-spent (x .exec .ensures) (l .before .place2 .ensures) (c .enum-told .given .1)));
+      record { is =
+        sym (l .loop .inv .1 ∙ loop-stopped (as-while s) (l .loop .left) (l .loop .s) _ (omega linear) (tested (s .args .t .now) (l .loop .s) (test .before .boolean .ensures) (l .before .before .place .ensures) (not-false _ (test .if1 .left)))
+        (ran-spent (x .exec .ensures) (l .before .place2 .ensures) (c .enum-told .given .1)))
       }
-
-  repeat-same-length-4 : repeat-lts.Need-same-length-4 (repeat-calls m) (repeat-at m) repeat.Post repeat-Inv-loop repeat-μ-loop
-  repeat-same-length-4 c = search needs
 
   repeat-returns-4 : repeat-lts.Need-returns-4 (repeat-calls m) (repeat-at m) repeat.Post repeat-Inv-loop repeat-μ-loop
   unfolding outcome
-  repeat-returns-4 c =
+  repeat-returns-4 c = 
       let l = c .before in
       let s = l .before .before .before .before in
       let none-left : l .loop .left ≡ 0 = omega linear in
-      record { is = sym (l .loop .inv .2 ∙ ap (λ f. Runs (s .args .t .now) (s .args .n) f (l .loop .s)) none-left ∙ loop-spent (as-while s) (l .loop .s)) }
+      record { is =
+        sym (l .loop .inv .1 ∙ ap (λ f. Runs (s .args .t .now) (s .args .n) f (l .loop .s)) none-left ∙ loop-spent (as-while s) (l .loop .s))
+      }
 
 pub +branch+exec+repeat-spec : {M : Type 1} → statement M
 +branch+exec+repeat-spec = close μ-branch μ-exec μ-repeat (λ t. branch-lts.spec (branch-calls t)
@@ -427,11 +384,8 @@ pub +branch+exec+repeat-spec : {M : Type 1} → statement M
     (branch-place-requires-3 t)
     (branch-sub-exec-2 t)
     (branch-exec-requires-2 t)
-    (branch-same-length t)
     (branch-returns-2 t)
-    (branch-same-length-2 t)
     (branch-returns-3 t)
-    (branch-same-length-3 t)
     (branch-returns-4 t))
     (λ t. exec-lts.spec (exec-calls t)
     (exec-at t)
@@ -447,15 +401,10 @@ pub +branch+exec+repeat-spec : {M : Type 1} → statement M
     (exec-branch-requires t)
     (exec-repeat-requires t)
     (exec-returns t)
-    (exec-same-length t)
     (exec-returns-2 t)
-    (exec-same-length-2 t)
     (exec-returns-3 t)
-    (exec-same-length-3 t)
     (exec-returns-4 t)
-    (exec-same-length-4 t)
     (exec-returns-5 t)
-    (exec-same-length-5 t)
     (exec-returns-6 t))
     λ t. repeat-lts.spec (repeat-calls t)
     (repeat-at t)
@@ -466,19 +415,15 @@ pub +branch+exec+repeat-spec : {M : Type 1} → statement M
     (repeat-place-requires-2 t)
     (repeat-loop-holds t)
     (repeat-boolean-requires t)
-    (repeat-sub-t13 t)
-    (repeat-same-length t)
+    (repeat-sub-t12 t)
     (repeat-returns t)
     (repeat-sub-exec t)
     (repeat-exec-requires t)
     (repeat-enum-known-more t)
-    (repeat-same-length-2 t)
     (repeat-returns-2 t)
     (repeat-sub-left t)
     (repeat-loop-less t)
     (repeat-loop-again t)
     (repeat-enum-told t)
-    (repeat-same-length-3 t)
     (repeat-returns-3 t)
-    (repeat-same-length-4 t)
     (repeat-returns-4 t)

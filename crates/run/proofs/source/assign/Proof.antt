@@ -39,17 +39,14 @@ below-32 : (c : lts.After-arith (place-reads.Asked, place-reads.Learnt, arith-re
 unfolding rowOf
 below-32 c = let x = c .before .before .before in rw (x .place .ensures) (of-kind (x .before .before .before .pre) .first)
 
-mul-t11 : tie.Need-mul-t11
-mul-t11 c = scaled-fits (c .before .before .before .place .result) 32 4 (below-32 c) (lit< tt)
+mul-t10 : tie.Need-mul-t10
+mul-t10 c = scaled-fits (c .before .before .before .place .result) 32 4 (below-32 c) (lit< tt)
 
-slice-set-from-s : tie.Need-slice-set-from-s
-slice-set-from-s c = rw (c .before .before .before .before .before .before .pre .ready .store) (below-32 c)
+element-set-from-s : tie.Need-element-set-from-s
+element-set-from-s c = below-32 c
 
 sub-t13 : tie.Need-sub-t13
 sub-t13 c = search needs
-
-same-length : tie.Need-same-length
-same-length c = search needs
 
 returns-2 : tie.Need-returns-2
 unfolding outcome
@@ -70,8 +67,7 @@ assign-spec =
     place-requires
     place-requires-2
     arith-requires
-    mul-t11
-    slice-set-from-s
+    mul-t10
+    element-set-from-s
     sub-t13
-    same-length
     returns-2)
