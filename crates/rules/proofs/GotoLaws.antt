@@ -8,6 +8,7 @@ use mathlib.Core.List.{List, [], _∷_, _++_, List·Memᴰ, List·Memᴰ·head, 
 use mathlib.Core.Logic.{_⊎_, inl, inr, _↔_}
 use mathlib.Core.Option.{Option, none, some}
 use lib.Dec.{eqb}
+use lib.ListN.{length, length-set}
 use borrow.Author.Tests.{eq-eqb, ne-eqb, eqb-true, eqb-false}
 use Rattle.rules.specs.Lists.{fetch}
 use Rattle.rules.specs.Expression.{Store}
@@ -68,6 +69,11 @@ unfetched c ℓ e d =
     let found : (j : Instr) × (fetch c ℓ ≡ some j) = in-fetched c ℓ (d .0) (d .1) in
     let clash : none ≡ some (found .0) = sym e ∙ found .1 in
     let z : _≡_ {A = ℕ} 0 1 = cc in omega arith
+
+-- the store that a run left
+abbrev pub storeOf : Halted → Store
+storeOf (finished ℓ σ left) = σ
+storeOf (out ℓ σ) = σ
 
 -- ---- Lemmas 1 to 3
 
@@ -174,6 +180,28 @@ module _ (M : Meaning) where
           ∙ run-step c (n + m) ℓ σ i (fetches c wf ℓ i h)
           ∙ ap₂ (λ (x : ℕ) (y : Store). run M c (n + m) x y) (sym p) (sym q)
           ∙ e
+
+  -- ---- a run keeps the number of values in the store
+
+  pub next-length : (i : Instr) (σ : Store) → length (nextStore M i σ) ≡ length σ
+  unfolding nextStore
+  next-length (x ≔ a) σ = length-set σ x _
+  next-length (goto m) σ = refl
+  next-length (ifnot b m) σ = refl
+
+  step-length : {c : Code} {ℓ ℓ′ : ℕ} {σ σ′ : Store} → Takes c ℓ σ ℓ′ σ′ → length σ′ ≡ length σ
+  step-length {σ = σ} (takes i h p q) = ap length q ∙ next-length i σ
+
+  steps-length : {c : Code} {n ℓ ℓ′ : ℕ} {σ σ′ : Store} → Steps M c n ℓ σ ℓ′ σ′ → length σ′ ≡ length σ
+  steps-length none-yet = refl
+  steps-length (one-more s r) = steps-length r ∙ step-length (taken s)
+
+  said-length : {c : Code} {n ℓ : ℕ} {σ : Store} (h : Halted) → RunSays c n ℓ σ h → length (storeOf h) ≡ length σ
+  said-length (finished ℓ′ σ′ left) (finishes k l r e f) = steps-length r
+  said-length (out ℓ′ σ′) (runs-out i r f) = steps-length r
+
+  pub run-length : (c : Code) (n ℓ : ℕ) (σ : Store) → length (storeOf (run M c n ℓ σ)) ≡ length σ
+  run-length c n ℓ σ = said-length (run M c n ℓ σ) (run-says c n ℓ σ)
 
   -- ---- the same, for a reader of answers: the steps reported are the published steps taken
 

@@ -131,37 +131,40 @@ module _ (m : ℕ) where
   branch-exec-requires-2 c κs = let s = c .before .before .before .before .before .before .before .before in down (ready₁ s) (c .place3 .ensures) (as-if s .third) (falls₁ s)
 
   branch-returns-2 : branch-lts.Need-returns-2 (branch-calls m) (branch-at m) branch.Post
-  branch-returns-2 c = 
+  branch-returns-2 c =
       let x = c .before .before .before .before in
       let test = x .before .before .before in
       let s = test .before .before .before .before .before .before in
-      record { is =
-        rw (c .pay .ensures)
-        (sym (if-then (as-if s) (s .args .fuel) _ (s .args .s .now) _ (omega (linear, test .before .before .before .before .if1 .left))
-        (tested (s .args .t .now) (s .args .s .now) (test .before .boolean .ensures) (test .before .before .place .ensures) (test .if2 .taken))
-        (ran-done (x .exec .ensures) (x .before .place2 .ensures) _ (c .before .before .left .given .1))))
+      record {
+        is =
+            rw (c .pay .ensures)
+            (sym (if-then (as-if s) (s .args .fuel) _ (s .args .s .now) _ (omega (linear, test .before .before .before .before .if1 .left))
+            (tested (s .args .t .now) (s .args .s .now) (test .before .boolean .ensures) (test .before .before .place .ensures) (test .if2 .taken))
+            (ran-done (x .exec .ensures) (x .before .place2 .ensures) _ (c .before .before .left .given .1))));
       }
 
   branch-returns-3 : branch-lts.Need-returns-3 (branch-calls m) (branch-at m) branch.Post
   unfolding outcome
-  branch-returns-3 c = 
+  branch-returns-3 c =
       let x = c .before .before in
       let test = x .before .before .before in
       let s = test .before .before .before .before .before .before in
-      record { is =
-        sym (if-stopped (as-if s) (s .args .fuel) (s .args .s .now) _ (omega (linear, test .before .before .before .before .if1 .left))
-        (tested (s .args .t .now) (s .args .s .now) (test .before .boolean .ensures) (test .before .before .place .ensures) (test .if2 .taken))
-        (ran-spent (x .exec .ensures) (x .before .place2 .ensures) (c .enum-told .given .1)))
+      record {
+        is =
+            sym (if-stopped (as-if s) (s .args .fuel) (s .args .s .now) _ (omega (linear, test .before .before .before .before .if1 .left))
+            (tested (s .args .t .now) (s .args .s .now) (test .before .boolean .ensures) (test .before .before .place .ensures) (test .if2 .taken))
+            (ran-spent (x .exec .ensures) (x .before .place2 .ensures) (c .enum-told .given .1)));
       }
 
   branch-returns-4 : branch-lts.Need-returns-4 (branch-calls m) (branch-at m) branch.Post
-  branch-returns-4 c = 
+  branch-returns-4 c =
       let test = c .before .before .before in
       let s = test .before .before .before .before .before .before in
-      record { is =
-        ran (c .exec2 .ensures) (c .before .place3 .ensures)
-        ∙ sym (if-false (as-if s) (s .args .fuel) (s .args .s .now) (omega (linear, test .before .before .before .before .if1 .left))
-        (tested (s .args .t .now) (s .args .s .now) (test .before .boolean .ensures) (test .before .before .place .ensures) (test .if2 .left)))
+      record {
+        is =
+            ran (c .exec2 .ensures) (c .before .place3 .ensures)
+            ∙ sym (if-false (as-if s) (s .args .fuel) (s .args .s .now) (omega (linear, test .before .before .before .before .if1 .left))
+            (tested (s .args .t .now) (s .args .s .now) (test .before .boolean .ensures) (test .before .before .place .ensures) (test .if2 .left)));
       }
 
 -- ---- exec
@@ -218,7 +221,7 @@ module _ (m : ℕ) where
 
   exec-repeat-requires : exec-lts.Need-repeat-requires (exec-calls m) (exec-at m) exec.Post
   unfolding kindOf fetch
-  exec-repeat-requires c κs = 
+  exec-repeat-requires c κs =
       let w = c .before .before in
       let range = statement-range (field (w .before .before .args .t .now) (w .before .before .args .n) 0) (ready₂ w .class) in
       let last : w .word .result ≡ 36 = omega (linear, w .word .ensures, range .0, range .1) in
@@ -232,23 +235,25 @@ module _ (m : ℕ) where
   exec-returns-2 c = c .assign .ensures
 
   exec-returns-3 : exec-lts.Need-returns-3 (exec-calls m) (exec-at m) exec.Post
-  exec-returns-3 c = 
+  exec-returns-3 c =
       let x = c .before .before .before .before .before .before in
       let w = c .before .before .before .before .before .before .before .before .before .before in
-      record { is =
-        ran (c .exec2 .ensures) (c .before .place2 .ensures)
-        ∙ sym (first-done (as-sequence (c .before .before .before .before .before .before .before .before .before)) (w .before .before .args .fuel) _ _ _
-        (ran-done (x .exec .ensures) (x .before .place .ensures) _ (c .before .before .before .before .left .given .1)))
+      record {
+        is =
+            ran (c .exec2 .ensures) (c .before .place2 .ensures)
+            ∙ sym (first-done (as-sequence (c .before .before .before .before .before .before .before .before .before)) (w .before .before .args .fuel) _ _ _
+            (ran-done (x .exec .ensures) (x .before .place .ensures) _ (c .before .before .before .before .left .given .1)));
       }
 
   exec-returns-4 : exec-lts.Need-returns-4 (exec-calls m) (exec-at m) exec.Post
   unfolding outcome
-  exec-returns-4 c = 
+  exec-returns-4 c =
       let x = c .before .before in
       let w = c .before .before .before .before .before .before in
-      record { is =
-        sym (first-stopped (as-sequence (c .before .before .before .before .before)) (w .before .before .args .fuel) _ _
-        (ran-spent (x .exec .ensures) (x .before .place .ensures) (c .enum-told .given .1)))
+      record {
+        is =
+            sym (first-stopped (as-sequence (c .before .before .before .before .before)) (w .before .before .args .fuel) _ _
+            (ran-spent (x .exec .ensures) (x .before .place .ensures) (c .enum-told .given .1)));
       }
 
   exec-returns-5 : exec-lts.Need-returns-5 (exec-calls m) (exec-at m) exec.Post
@@ -296,12 +301,13 @@ module _ (m : ℕ) where
 
   repeat-returns : repeat-lts.Need-returns (repeat-calls m) (repeat-at m) repeat.Post repeat-Inv-loop repeat-μ-loop
   unfolding outcome
-  repeat-returns c = 
+  repeat-returns c =
       let test = c in
       let l = c .before .before .before .before in
       let s = l .before .before .before .before in
-      record { is =
-        sym (l .loop .inv .1 ∙ loop-ends (as-while s) (l .loop .left) (l .loop .s) (omega linear) (tested (s .args .t .now) (l .loop .s) (test .before .boolean .ensures) (l .before .before .place .ensures) (not-true _ (c .if1 .taken))))
+      record {
+        is =
+            sym (l .loop .inv .1 ∙ loop-ends (as-while s) (l .loop .left) (l .loop .s) (omega linear) (tested (s .args .t .now) (l .loop .s) (test .before .boolean .ensures) (l .before .before .place .ensures) (not-true _ (c .if1 .taken))));
       }
 
   repeat-sub-exec : repeat-lts.Need-sub-exec (repeat-calls m) (repeat-at m) repeat.Post repeat-Inv-loop repeat-μ-loop
@@ -316,14 +322,15 @@ module _ (m : ℕ) where
 
   repeat-returns-2 : repeat-lts.Need-returns-2 (repeat-calls m) (repeat-at m) repeat.Post repeat-Inv-loop repeat-μ-loop
   unfolding outcome
-  repeat-returns-2 c = 
+  repeat-returns-2 c =
       let x = c .before .before .before .before in
       let test = x .before .before in
       let l = test .before .before .before .before in
       let s = l .before .before .before .before in
-      record { is =
-        sym (l .loop .inv .1 ∙ loop-owes (as-while s) (l .loop .left) (l .loop .s) _ (omega linear) (tested (s .args .t .now) (l .loop .s) (test .before .boolean .ensures) (l .before .before .place .ensures) (not-false _ (test .if1 .left)))
-        (ran-done (x .exec .ensures) (l .before .place2 .ensures) 0 (c .before .before .more .given .1 ∙ ap Left.Units (c .if2 .taken))))
+      record {
+        is =
+            sym (l .loop .inv .1 ∙ loop-owes (as-while s) (l .loop .left) (l .loop .s) _ (omega linear) (tested (s .args .t .now) (l .loop .s) (test .before .boolean .ensures) (l .before .before .place .ensures) (not-false _ (test .if1 .left)))
+            (ran-done (x .exec .ensures) (l .before .place2 .ensures) 0 (c .before .before .more .given .1 ∙ ap Left.Units (c .if2 .taken))));
       }
 
   repeat-sub-left : repeat-lts.Need-sub-left (repeat-calls m) (repeat-at m) repeat.Post repeat-Inv-loop repeat-μ-loop
@@ -333,39 +340,42 @@ module _ (m : ℕ) where
   repeat-loop-less c = omega (linear, left-most (c .before .before .before .before .exec .ensures) _ (c .before .before .more .given .1))
 
   repeat-loop-again : repeat-lts.Need-loop-again (repeat-calls m) (repeat-at m) repeat.Post repeat-Inv-loop repeat-μ-loop
-  repeat-loop-again c = 
+  repeat-loop-again c =
       let x = c .before .before .before .before in
       let test = x .before .before in
       let l = test .before .before .before .before in
-      let s = l .before .before .before .before in
-      (omega (linear, l .loop .inv .0, left-most (x .exec .ensures) _ (c .before .before .more .given .1)),
-      l .loop .inv .1
-      ∙ loop-again (as-while s) (l .loop .left) _ (l .loop .s) _ (omega linear) (omega (linear, c .if2 .left)) (tested (s .args .t .now) (l .loop .s) (test .before .boolean .ensures) (l .before .before .place .ensures) (not-false _ (test .if1 .left)))
-      (ran-done (x .exec .ensures) (l .before .place2 .ensures) _ (c .before .before .more .given .1)))
+      let s = l .before .before .before .before in (
+        omega (linear, l .loop .inv .0, left-most (x .exec .ensures) _ (c .before .before .more .given .1)),
+        l .loop .inv .1
+            ∙ loop-again (as-while s) (l .loop .left) _ (l .loop .s) _ (omega linear) (omega (linear, c .if2 .left)) (tested (s .args .t .now) (l .loop .s) (test .before .boolean .ensures) (l .before .before .place .ensures) (not-false _ (test .if1 .left)))
+            (ran-done (x .exec .ensures) (l .before .place2 .ensures) _ (c .before .before .more .given .1)),
+      )
 
   repeat-enum-told : repeat-lts.Need-enum-told (repeat-calls m) (repeat-at m) repeat.Post repeat-Inv-loop repeat-μ-loop
   repeat-enum-told c = search needs
 
   repeat-returns-3 : repeat-lts.Need-returns-3 (repeat-calls m) (repeat-at m) repeat.Post repeat-Inv-loop repeat-μ-loop
   unfolding outcome
-  repeat-returns-3 c = 
+  repeat-returns-3 c =
       let x = c .before .before in
       let test = x .before .before in
       let l = test .before .before .before .before in
       let s = l .before .before .before .before in
-      record { is =
-        sym (l .loop .inv .1 ∙ loop-stopped (as-while s) (l .loop .left) (l .loop .s) _ (omega linear) (tested (s .args .t .now) (l .loop .s) (test .before .boolean .ensures) (l .before .before .place .ensures) (not-false _ (test .if1 .left)))
-        (ran-spent (x .exec .ensures) (l .before .place2 .ensures) (c .enum-told .given .1)))
+      record {
+        is =
+            sym (l .loop .inv .1 ∙ loop-stopped (as-while s) (l .loop .left) (l .loop .s) _ (omega linear) (tested (s .args .t .now) (l .loop .s) (test .before .boolean .ensures) (l .before .before .place .ensures) (not-false _ (test .if1 .left)))
+            (ran-spent (x .exec .ensures) (l .before .place2 .ensures) (c .enum-told .given .1)));
       }
 
   repeat-returns-4 : repeat-lts.Need-returns-4 (repeat-calls m) (repeat-at m) repeat.Post repeat-Inv-loop repeat-μ-loop
   unfolding outcome
-  repeat-returns-4 c = 
+  repeat-returns-4 c =
       let l = c .before in
       let s = l .before .before .before .before in
       let none-left : l .loop .left ≡ 0 = omega linear in
-      record { is =
-        sym (l .loop .inv .1 ∙ ap (λ f. Runs (s .args .t .now) (s .args .n) f (l .loop .s)) none-left ∙ loop-spent (as-while s) (l .loop .s))
+      record {
+        is =
+            sym (l .loop .inv .1 ∙ ap (λ f. Runs (s .args .t .now) (s .args .n) f (l .loop .s)) none-left ∙ loop-spent (as-while s) (l .loop .s));
       }
 
 pub +branch+exec+repeat-spec : {M : Type 1} → statement M

@@ -1,0 +1,88 @@
+-- `run::code::check_code` meets its contract. The loop's invariant: no instruction passed is against the rules.
+use mathlib.Core.Path.{_≡_, sym, ap, _∙_}
+use mathlib.Core.Bool.{true}
+use Prim.Native.Nat.{ℕ, _≤_, _<_, _-_, _%_}
+use native.Mathlib.Omega.{arith}
+use lib.Dec.{eqb}
+use lib.ListN.{length}
+use borrow.Author.Count.{below-more}
+use borrow.Author.Needs.{needs}
+use borrow.Author.Tests.{eqb-true, eqb-false, leb-true, not-true, not-false}
+use Rattle.rules.specs.Refusal.{fine}
+use Rattle.rules.specs.CodeWords.{instructions, wholeCode, codeFault}
+use Rattle.rules.proofs.ListLaws.{and-true}
+use Rattle.rules.proofs.FetchLaws.{refused-count, refused-at, not-refused}
+use Rattle.table.specs.Checking.{answer}
+use Rattle.run.proofs.code.check_code.Statement.{statement}
+use Rattle.run.proofs.code.check_code.Tie as tie
+use Rattle.run.proofs.code.check_code.Reads as reads
+use Rattle.run.proofs.code.check_code.Lts as lts
+use Rattle.run.proofs.code.obeys.Reads as obeys-reads
+
+abbrev Inv-loop : tie.InvT-loop
+Inv-loop t c words whole count k₀ k = (k ≤ instructions c) × ((j : ℕ) → j < k → codeFault t c j ≡ fine)
+
+abbrev μ-loop : tie.MeasureT-loop
+μ-loop t c words whole count k₀ k = instructions c - k
+
+-- past the first test, the words are whole instructions, and few
+is-whole : (c : tie.Else1 Inv-loop μ-loop) → wholeCode (c .before .before .before .args .c .now) ≡ true
+unfolding wholeCode
+is-whole c = not-false _ (c .if1 .left)
+
+few : (c : tie.Else1 Inv-loop μ-loop) → length (c .before .before .before .args .c .now) ≤ 4096
+unfolding wholeCode
+few c = leb-true _ _ (and-true (eqb (length (c .before .before .before .args .c .now) % 4) 0) _ (is-whole c) .1)
+
+returns : tie.Need-returns Inv-loop μ-loop
+unfolding answer wholeCode
+returns c = sym (ap answer (refused-count _ _ (not-true _ (c .if1 .taken))))
+
+loop-holds : tie.Need-loop-holds Inv-loop μ-loop
+loop-holds c = (omega arith, λ j h. absurd (omega arith))
+
+obeys-requires : tie.Need-obeys-requires Inv-loop μ-loop
+obeys-requires c κs = search needs
+
+cast-t13 : tie.Need-cast-t13 Inv-loop μ-loop
+cast-t13 c = omega (arith, few (c .before .before .before .before))
+
+returns-2 : tie.Need-returns-2 Inv-loop μ-loop
+unfolding answer
+returns-2 c =
+    let turn = c .before .before .before in
+    let fault = eqb-false _ fine (sym (c .before .obeys .ensures) ∙ not-true _ (c .if2 .taken)) in
+    sym (ap answer (refused-at _ _ (is-whole (turn .before)) _ (c .before .before .loop-test .taken) fault (turn .loop .inv .1)))
+
+add-k : tie.Need-add-k Inv-loop μ-loop
+add-k c = omega arith
+
+loop-less : tie.Need-loop-less Inv-loop μ-loop
+loop-less c = omega arith
+
+loop-again : tie.Need-loop-again Inv-loop μ-loop
+loop-again c =
+    let turn = c .before .before .before in
+    (omega arith, below-more _ _ (turn .loop .inv .1) (eqb-true _ fine (sym (c .before .obeys .ensures) ∙ not-false _ (c .if2 .left))))
+
+returns-3 : tie.Need-returns-3 Inv-loop μ-loop
+unfolding answer
+returns-3 c =
+    let turn = c .before in
+    sym (ap answer (not-refused _ _ (is-whole (turn .before)) (λ k h. turn .loop .inv .1 k (omega arith))))
+
+pub check-code-spec : {M : Type 1} → statement M
+check-code-spec =
+    tie.close
+    (tie.spec
+    Inv-loop
+    μ-loop
+    returns
+    loop-holds
+    obeys-requires
+    cast-t13
+    returns-2
+    add-k
+    loop-less
+    loop-again
+    returns-3)

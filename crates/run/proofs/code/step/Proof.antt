@@ -1,0 +1,103 @@
+-- `run::code::step` meets its contract: once the three words are read, each operation has its law.
+use mathlib.Core.Path.{sym, _∙_}
+use native.Mathlib.Omega.{arith as linear}
+use borrow.Author.Needs.{needs}
+use Rattle.value.proofs.Machine.{read-back}
+use Rattle.run.specs.CodeSteps.{Stands}
+use Rattle.run.proofs.Steps.{Read, rising, goes-on, can-assign, can-test, assigned, jumped, held, failed}
+use Rattle.run.proofs.code.step.Statement.{statement}
+use Rattle.run.proofs.code.step.Tie as tie
+
+-- where the three words are read
+abbrev start : tie.After-word3 → tie.Start
+start w = w .before .before .before .before .before
+
+stands : (w : tie.After-word3) → Stands (start w .args .t .now) (start w .args .c .now) (start w .args .k) (start w .args .store .now)
+stands w = start w .pre
+
+read : (w : tie.After-word3) → Read (start w .args .c .now) (start w .args .k) (w .before .before .word .result) (w .before .word2 .result) (w .word3 .result)
+read w = record { operation = w .before .before .word .ensures; first = w .before .word2 .ensures; second = w .word3 .ensures }
+
+word-requires : tie.Need-word-requires
+word-requires c κs = search needs
+
+word-requires-2 : tie.Need-word-requires-2
+word-requires-2 c κs = search needs
+
+cast-x : tie.Need-cast-x
+cast-x c = search needs
+
+word-requires-3 : tie.Need-word-requires-3
+word-requires-3 c κs = search needs
+
+cast-arith : tie.Need-cast-arith
+cast-arith c = search needs
+
+arith-requires : tie.Need-arith-requires
+arith-requires c κs = let w = c .before .before in can-assign (stands w) (read w) (c .before .match .keys1) .1
+
+mul-v : tie.Need-mul-v
+mul-v c = search needs
+
+element-set-from-v : tie.Need-element-set-from-v
+element-set-from-v c =
+    let w = c .before .before .before in
+    can-assign (stands w) (read w) (c .before .before .match .keys1) .0
+
+after-requires : tie.Need-after-requires
+after-requires c κs = goes-on (stands (c .before .before .before))
+
+jump-requires : tie.Need-jump-requires
+jump-requires c κs = rising (stands (c .before))
+
+boolean-requires : tie.Need-boolean-requires
+boolean-requires c κs =
+    let w = c .before .before in let other = c .before .match .rest in
+    can-test (stands w) (read w) (other .0 .1) (other .1)
+
+after-requires-2 : tie.Need-after-requires-2
+after-requires-2 c κs = goes-on (stands (c .before .before .before .before))
+
+jump-requires-2 : tie.Need-jump-requires-2
+jump-requires-2 c κs = rising (stands (c .before .before .before .before))
+
+returns : tie.Need-returns
+returns c =
+    let w = c .before .before .before .before in
+    assigned (stands w) (read w) (c .before .before .before .match .keys1)
+    (read-back (c .before .arith .result) (c .before .arith .ok) ∙ c .before .arith .ensures) (c .after .ensures)
+
+returns-2 : tie.Need-returns-2
+returns-2 c = let w = c .before .before in jumped (stands w) (read w) (c .before .match .keys2) (c .jump .ensures)
+
+returns-3 : tie.Need-returns-3
+returns-3 c =
+    let w = c .before .before .before .before .before in let other = c .before .before .before .before .match .rest in
+    held (stands w) (read w) (other .0 .1) (other .1) (sym (c .before .before .boolean .ensures) ∙ c .before .if1 .taken) (c .after2 .ensures)
+
+returns-4 : tie.Need-returns-4
+returns-4 c =
+    let w = c .before .before .before .before .before in let other = c .before .before .before .before .match .rest in
+    failed (stands w) (read w) (other .0 .1) (other .1) (sym (c .before .before .boolean .ensures) ∙ c .before .if1 .left) (c .jump2 .ensures)
+
+pub step-spec : {M : Type 1} → statement M
+step-spec =
+    tie.close
+    (tie.spec
+    word-requires
+    word-requires-2
+    cast-x
+    word-requires-3
+    cast-arith
+    arith-requires
+    mul-v
+    element-set-from-v
+    after-requires
+    jump-requires
+    boolean-requires
+    after-requires-2
+    jump-requires-2
+    returns
+    returns-2
+    returns-3
+    returns-4)
