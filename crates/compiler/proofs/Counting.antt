@@ -1,5 +1,5 @@
--- The instructions of a table's code, counted node by node: each node adds its own to its children's, and every node is in the root's
--- tree once.
+-- The instructions of a table's code, counted node by node: each node adds its own to its children's, and every node is in the
+-- root's tree once.
 use mathlib.Core.Path.{_≡_, refl, ap, sym, _∙_}
 use mathlib.Core.Bool.{Bool, true, false, cond}
 use mathlib.Core.List.{List, _++_}
@@ -11,8 +11,10 @@ use borrow.Author.Tests.{eqb-true, ne-eqb, ltb-true, ltb-false}
 use Rattle.rules.specs.Lists.{every, fetch}
 use Rattle.rules.specs.While.{Stm}
 use Rattle.rules.specs.Compilation.{size}
-use Rattle.rules.specs.Table.{field, nodes, root, Kind, number, variable, binary, choose, truth, compare, negation, both, skip, assign, sequence, if, while, unknown}
-use Rattle.rules.specs.Table.{kindOf, kindAt, rowOf, rowAt, Class, arithmetic, boolean, statement, Tree, treeBy, treeAt, stmOf, childIn, children, program}
+use Rattle.rules.specs.Table.{Kind, number, variable, binary, choose, truth, compare, negation, both}
+use Rattle.rules.specs.Table.{skip, assign, sequence, if, while, unknown}
+use Rattle.rules.specs.Table.{field, nodes, kindOf, kindAt, rowOf, Class, arithmetic, boolean, statement}
+use Rattle.rules.specs.Table.{Tree, treeBy, stmOf, childIn, children, program}
 use Rattle.rules.proofs.ListLaws.{every-true}
 use Rattle.rules.proofs.TableLaws.{Child, NodeAs, Facts, node-as, tree-at, kind-past}
 use Rattle.rules.proofs.Bound.{sum, counted, over-nodes}
@@ -81,21 +83,18 @@ module _ (t : List ℕ) (f : Facts t) where
 
 -- ---- what a kind adds, by its number
 
--- the numbers of the kinds that add something
-addsBy : ℕ → ℕ
-addsBy k = cond (eqb k 33) 1 (cond (eqb k 35) 2 (cond (eqb k 36) 2 0))
+abbrev addsBy : ℕ → ℕ
+addsBy k = cond (eqb k 33) 1 0 + cond (eqb k 35) 2 0 + cond (eqb k 36) 2 0
 
-adds-small : (k : ℕ) → k < 37 → adds (kindOf k) ≡ addsBy k
-unfolding every kindOf fetch adds addsBy
-adds-small k h = eqb-true _ _ (every-true (λ k. eqb (adds (kindOf k)) (addsBy k)) 37 refl k h)
-
-pub adds-none : (k : ℕ) → (k ≡ 33 → ⊥) → (k ≡ 35 → ⊥) → (k ≡ 36 → ⊥) → adds (kindOf k) ≡ 0
-unfolding adds addsBy
-adds-none k a b c = go (ltb k 37) refl
+pub adds-by : (k : ℕ) → addsBy k ≡ adds (kindOf k)
+unfolding every kindOf fetch adds
+adds-by k = go (ltb k 37) refl
   where
-    go : (s : Bool) → ltb k 37 ≡ s → adds (kindOf k) ≡ 0
-    go true e = adds-small k (ltb-true k 37 e) ∙ rw (ne-eqb k 33 a, ne-eqb k 35 b, ne-eqb k 36 c)
-    go false e = ap adds (kind-past k (ltb-false k 37 e))
+    go : (s : Bool) → ltb k 37 ≡ s → addsBy k ≡ adds (kindOf k)
+    go true e = eqb-true _ _ (every-true (λ k. eqb (addsBy k) (adds (kindOf k))) 37 refl k (ltb-true k 37 e))
+    go false e =
+        let past : 37 ≤ k = ltb-false k 37 e in
+        rw (ne-eqb k 33 (λ e. omega arith), ne-eqb k 35 (λ e. omega arith), ne-eqb k 36 (λ e. omega arith), kind-past k past)
 
 -- ---- the count on its way
 
@@ -106,7 +105,7 @@ pub record SoFar (t : List ℕ) (total at : ℕ) : Type 0 where
   pub at-node : at % 4 ≡ 0
   pub inside : at ≤ length t
   pub sum-is : total ≡ counted (λ n. adds (kindAt t n)) (at / 4)
-  pub small : 2 * total ≤ at
+  pub small : total ≤ 2 * at
 
 module _ (t : List ℕ) where
   pub count-begins : Facts t → SoFar t 0 0
@@ -116,7 +115,8 @@ module _ (t : List ℕ) where
       let few : nodes t ≤ 1024 = f .few in
       record { whole = omega arith; few = omega arith; at-node = refl; inside = omega arith; sum-is = refl; small = omega arith }
 
-  pub count-goes-on : {total at a : ℕ} → SoFar t total at → at < length t → a ≡ adds (kindOf (getD t at 0)) → a ≤ 2 → SoFar t (total + a) (at + 4)
+  pub count-goes-on : {total at a : ℕ} → SoFar t total at → at < length t → a ≡ adds (kindOf (getD t at 0)) → a ≤ 5
+      → SoFar t (total + a) (at + 4)
   unfolding counted
   count-goes-on {total} {at} {a} s l e h =
       let next : (at + 4) / 4 ≡ suc (at / 4) = omega arith in

@@ -1,5 +1,5 @@
 -- A statement node read by its words: its statement in terms of its children's, and where their code fits within its own.
-use mathlib.Core.Path.{_≡_, refl, ap, ap₂, sym, _∙_}
+use mathlib.Core.Path.{_≡_, refl, ap, _∙_}
 use mathlib.Core.List.{List}
 use Prim.Native.Nat.{ℕ, _+_, _*_, _<_, _≤_}
 use native.Mathlib.Omega.{arith}
@@ -47,13 +47,20 @@ module _ {t : List ℕ} {n start room i : ℕ} (f : Fits t n start room i) where
   sized-as : (s : Stm) → stmAt t n ≡ s → Sized t n start room i s
   sized-as s e = record { stm = e; labels = rw (← e) (f .labels); words = rw (← e) (f .words) }
 
-  part-at : (p j room′ : ℕ) → Child t n statement p → room′ ≡ room → j + size (stmAt t p) ≤ i + size (stmAt t n) → Part t n p start room′ j
+  part-at : (p j room′ : ℕ) → Child t n statement p → room′ ≡ room → j + size (stmAt t p) ≤ i + size (stmAt t n)
+      → Part t n p start room′ j
   part-at p j room′ c e h =
       let l : p < n = c .below in
       let in-all : n < nodes t = f .inside in
       record {
         below = l;
-        fits = record { accepted = f .accepted; inside = omega arith; class = c .class; labels = omega (arith, f .labels); words = omega (arith, f .words) };
+        fits = record {
+          accepted = f .accepted;
+          inside = omega arith;
+          class = c .class;
+          labels = omega (arith, f .labels);
+          words = omega (arith, f .words);
+        };
       }
 
   module _ {w p q r : ℕ} (ws : Words t n w p q r) where

@@ -1,9 +1,8 @@
--- What the parts of the compiler need and give: the code of a node's statement, as the instructions from i on of code that begins at a
--- start label, so that instruction i bears the label start + i.
+-- What the parts of the compiler need and give: the code of a node's statement, as the instructions from i on of code that begins
+-- at a start label, so that instruction i bears the label start + i.
 use mathlib.Core.Path.{_≡_}
 use Prim.Native.Nat.{ℕ, _+_, _*_, _<_, _≤_}
 use mathlib.Core.List.{List, [], _∷_}
-use lib.ListN.{length}
 use lib.Seq.{sets}
 use Rattle.rules.specs.While.{Stm}
 use Rattle.rules.specs.Compilation.{size, compile}

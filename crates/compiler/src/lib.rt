@@ -4,7 +4,9 @@ use rules::Compiled;
 use rules::Made;
 use rules::Refusal;
 ghost use mathlib.Core.Path.{_≡_};
+ghost use mathlib.Core.Bool.{cond};
 ghost use Prim.Native.Nat.{_+_, _*_, _≤_};
+ghost use lib.Dec.{eqb};
 ghost use lib.ListN.{length};
 ghost use Rattle.rules.specs.declared.Compiled.{Compiled};
 ghost use Rattle.rules.specs.Answer.{ended};
@@ -15,6 +17,18 @@ ghost use Rattle.rules.specs.Table.{Accepted, kindOf, program, root};
 ghost use Rattle.rules.proofs.TableLaws.{Words};
 ghost use Rattle.compiler.specs.Compiling.{compiling};
 ghost use Rattle.compiler.specs.Writing.{frame, framed, stmAt, Place, Fits, Written, adds};
+
+// The kinds of statements that have code of their own.
+const ASSIGN: u32 = 33;
+
+const SEQUENCE: u32 = 34;
+
+const IF: u32 = 35;
+
+const WHILE: u32 = 36;
+
+// The words of an instruction.
+const WIDTH: usize = 4;
 
 struct Node {
     kind: u32,
@@ -42,7 +56,7 @@ fn put(room: &mut [u32], i: u32, label: u32, operation: u32, x: u32, y: u32)
     requires { ⌜ width * i + width ≤ length (now room) ⌝ }
     ensures { λ _. ⌜ now (room .exit) ≡ framed (now (room .entry)) i (frame label operation x y) ⌝ }
 {
-    let at = 4 * (i as usize);
+    let at = WIDTH * (i as usize);
     room[at] = label;
     room[at + 1] = operation;
     room[at + 2] = x;
@@ -82,22 +96,22 @@ fn emit(t: &[u32], n: u32, start: u32, room: &mut [u32], i: u32) -> u32
     let d = load(t, n);
     let kind = d.kind;
     match kind {
-        33 => {
+        ASSIGN => {
             put_assign(room, start, i, d.p, d.q);
             i + 1
         }
-        34 => {
+        SEQUENCE => {
             let m = emit(t, d.p, start, room, i);
             emit(t, d.q, start, room, m)
         }
-        35 => {
+        IF => {
             let m = emit(t, d.q, start, room, i + 1);
             let e = emit(t, d.r, start, room, m + 1);
             put_ifnot(room, start, i, d.p, m + 1);
             put_goto(room, start, m, e);
             e
         }
-        36 => {
+        WHILE => {
             let m = emit(t, d.q, start, room, i + 1);
             put_ifnot(room, start, i, d.p, m + 1);
             put_goto(room, start, m, i);
@@ -107,16 +121,18 @@ fn emit(t: &[u32], n: u32, start: u32, room: &mut [u32], i: u32) -> u32
     }
 }
 
-// The instructions that a node adds to those of its children.
-fn added(kind: u32) -> u32
-    ensures { λ r. ⌜ (r ≡ adds (kindOf kind)) × (r ≤ 2) ⌝ }
+// n where a kind is k, else 0.
+fn if_kind(kind: u32, k: u32, n: u32) -> u32
+    ensures { λ r. ⌜ (r ≡ cond (eqb kind k) n 0) × (r ≤ n) ⌝ }
 {
-    match kind {
-        33 => 1,
-        35 => 2,
-        36 => 2,
-        _ => 0,
-    }
+    if kind == k { n } else { 0 }
+}
+
+// The instructions that a node adds to those of its children. A sum, so that it takes no jump.
+fn added(kind: u32) -> u32
+    ensures { λ r. ⌜ (r ≡ adds (kindOf kind)) × (r ≤ 5) ⌝ }
+{
+    if_kind(kind, ASSIGN, 1) + if_kind(kind, IF, 2) + if_kind(kind, WHILE, 2)
 }
 
 // How many instructions the code of an accepted table has. Every node is in the root's tree once, so they need not be walked as a tree.
@@ -161,7 +177,7 @@ fn compile_accepted(table: &[u32], start: u32, room: &mut [u32]) -> Compiled
     if 65535 < end {
         return refused(11);
     }
-    if room.len() < 4 * (instructions as usize) {
+    if room.len() < WIDTH * (instructions as usize) {
         return refused(12);
     }
     write_code(table, start, room);

@@ -16,7 +16,7 @@ use Rattle.rules.specs.Goto.{Instr, _≔_, goto, ifnot, Code}
 use Rattle.rules.specs.Compilation.{size, compile}
 use Rattle.rules.specs.CodeWords.{width, part, instructions, instrOf, codeOf, frameOf, wordsOf}
 use Rattle.rules.specs.CodeWords.{wholeCode, isNode, fieldsFit, rises, codeFault, codeRefusal}
-use Rattle.rules.specs.Refusal.{fine, refuse, refuseLowest}
+use Rattle.rules.specs.Refusal.{fine, refuse}
 use Rattle.rules.specs.Table.{nodes, root, kindAt, rowOf, Class, arithmetic, boolean, treeBy, treeAt, stmOf, program}
 use Rattle.rules.specs.Table.{Kind, number, variable, choose, negation, both, skip, assign, sequence, if, while, unknown, binary, truth, compare}
 use Rattle.rules.proofs.ListLaws.{joined-same, joined-elements, none-orElse, none-refuseLowest}

@@ -1,15 +1,15 @@
 -- The answer from its parts: what each test of the check settles, in the order of the numbers.
-use mathlib.Core.Path.{_≡_, refl, ap, sym, _∙_}
-use mathlib.Core.Bool.{Bool, true, false, not}
+use mathlib.Core.Path.{_≡_, refl, sym, _∙_}
+use mathlib.Core.Bool.{true, false}
 use mathlib.Core.List.{List}
 use mathlib.Core.Option.{Option, none, some}
-use Prim.Native.Nat.{ℕ, _*_, _/_, _<_, _≤_, min}
+use Prim.Native.Nat.{ℕ, _/_, _<_, _≤_, min}
 use native.Mathlib.Omega.{arith}
 use lib.ListN.{getD}
 use borrow.Author.Tests.{eq-eqb, ne-eqb, lt-ltb, le-ltb}
 use Rattle.rules.specs.Lists.{joined}
 use Rattle.rules.specs.Refusal.{refusal, fine, refuse, refuseLowest, _orElse_}
-use Rattle.rules.specs.Table.{nodes, root, kindOf, rowOf, rowAt, statement, rank, isClass, children, occurs, depthAt}
+use Rattle.rules.specs.Table.{nodes, root, rowAt, statement, rank, isClass, children, occurs, depthAt}
 use Rattle.rules.specs.Table.{wholeTable, nodeFault, onceFault, tableRefusal}
 use Rattle.rules.specs.declared.Refusal.{Refusal}
 use Rattle.rules.specs.declared.Checked.{Checked}
@@ -31,7 +31,7 @@ answer-refused (some q) rest r e = refl
 answer-refused none rest r e = cc
 
 module _ (t : List ℕ) where
-  pub refused-1 : wholeTable t ≡ false → checking t ≡ Checked.Refused (refusal 1 0)
+  pub refused-1 : wholeTable t ≡ false → checking t ≡ answer (some (refusal 1 0))
   unfolding checking tableRefusal answer _orElse_ refuse
   refused-1 e = rw e
 
@@ -39,7 +39,8 @@ module _ (t : List ℕ) where
   unfolding checking tableRefusal treeRefusal _orElse_ refuse
   checking-whole e = rw e
 
-  pub refused-2-to-6 : wholeTable t ≡ true → (r : Refusal) → Checked.Refused r ≡ answer (refuseLowest (nodeFault t) (nodes t)) → checking t ≡ Checked.Refused r
+  pub refused-2-to-6 : wholeTable t ≡ true → (r : Refusal) → Checked.Refused r ≡ answer (refuseLowest (nodeFault t) (nodes t))
+      → checking t ≡ Checked.Refused r
   refused-2-to-6 w r e = checking-whole w ∙ answer-refused (refuseLowest (nodeFault t) (nodes t)) (treeRefusal t) r e ∙ sym e
 
   pub sound-nodes : Checked.Done ≡ answer (refuseLowest (nodeFault t) (nodes t)) → Sound t
@@ -50,8 +51,8 @@ module _ (t : List ℕ) where
   checking-sound w s = checking-whole w ∙ rw (none-refuseLowest (nodeFault t) (nodes t) s)
 
 -- refusals 7 to 9, from the root's row and the marks
-module _ (t : List ℕ) (row : ℕ) (read : row ≡ rowCode (rowOf (kindOf (getD t (4 * root t) 0)))) where
-  pub refused-7 : (row / 4096 ≡ 2 → ⊥) → answer (treeRefusal t) ≡ Checked.Refused (refusal 7 (root t))
+module _ (t : List ℕ) (row : ℕ) (read : row ≡ rowCode (rowAt t (root t))) where
+  pub refused-7 : (row / 4096 ≡ 2 → ⊥) → answer (treeRefusal t) ≡ answer (some (refusal 7 (root t)))
   unfolding treeRefusal answer _orElse_ refuse
   refused-7 ne = rw (ne-eqb (rank (rowAt t (root t) .class)) 2 (λ e. ne (sym (class-here t (root t) row read) ∙ e)))
 
@@ -66,7 +67,7 @@ module _ (t : List ℕ) (row : ℕ) (read : row ≡ rowCode (rowOf (kindOf (getD
     once k h e = fine-once t k (omega (arith, named k h))
 
     pub refused-8 : (k : ℕ) → k < root t → ((j : ℕ) → j < k → getD m j 0 ≡ 1) → (getD m k 0 ≡ 1 → ⊥)
-        → answer (treeRefusal t) ≡ Checked.Refused (refusal 8 k)
+        → answer (treeRefusal t) ≡ answer (some (refusal 8 k))
     unfolding treeRefusal answer _orElse_ refuse onceFault
     refused-8 k l before here =
         let not-once : occurs k (joined (children t) (nodes t)) ≡ 1 → ⊥ = λ e. here (omega (arith, named k l)) in
@@ -78,7 +79,7 @@ module _ (t : List ℕ) (row : ℕ) (read : row ≡ rowCode (rowOf (kindOf (getD
       all-once : refuseLowest (onceFault t) (root t) ≡ none
       all-once = none-refuseLowest (onceFault t) (root t) (λ k h. once k h (ones k h))
 
-      pub refused-9 : 256 < depthAt t (root t) → answer (treeRefusal t) ≡ Checked.Refused (refusal 9 0)
+      pub refused-9 : 256 < depthAt t (root t) → answer (treeRefusal t) ≡ answer (some (refusal 9 0))
       unfolding treeRefusal answer _orElse_ refuse
       refused-9 d = rw (is-statement, all-once, lt-ltb 256 (depthAt t (root t)) d)
 

@@ -1,14 +1,16 @@
 -- A node's depth from its words, and a bound on it by the node's number.
-use mathlib.Core.Path.{_≡_, refl, ap, ap₂, sym, _∙_}
+use mathlib.Core.Path.{_≡_, refl, ap, sym, _∙_}
 use mathlib.Core.Bool.{Bool, true, false}
 use mathlib.Core.List.{List, [], _∷_, _++_}
-use Prim.Native.Nat.{ℕ, zero, suc, _/_, _-_, _<_, _≤_, max}
+use Prim.Native.Nat.{ℕ, zero, suc, _+_, _*_, _-_, _<_, _≤_, max}
+use native.Mathlib.Nat.{add-zero}
 use native.Mathlib.Omega.{arith}
 use lib.Dec.{leb}
-use lib.ListN.{length}
+use lib.ListN.{getD}
 use borrow.Author.Tests.{le-leb, lt-leb, leb-true, leb-false}
-use Rattle.rules.specs.Table.{field, nodes, rowAt, Slot, unused, any, var, child, childIn, children, deepest, depthAt}
-use Rattle.rules.proofs.TableLaws.{Fills, NodeFits, node-fits, Below, children-below, depth-at}
+use Rattle.rules.specs.Lists.{fetch}
+use Rattle.rules.specs.Table.{field, nodes, kindOf, rowOf, rowAt, Slot, unused, any, var, child, childIn, children, deepest, depthAt}
+use Rattle.rules.proofs.TableLaws.{Fills, NodeFits, node-fits, Below, children-below, depth-at, in-run}
 use Rattle.table.specs.Checking.{Sound}
 use Rattle.table.specs.Marks.{slotCode}
 use Rattle.table.proofs.RowLaws.{rank-small}
@@ -48,27 +50,48 @@ child-lower t n any w k e f h = absurd (omega arith)
 child-lower t n var w k e f h = absurd (omega arith)
 child-lower t n (child c) w k e f h = f .below
 
+-- the kinds 0, 1 and 2 have no children
+no-children : (t : List ℕ) (n : ℕ) → field t n 0 < 3 → children t n ≡ []
+unfolding children rowOf kindOf fetch childIn
+no-children t n h = in-run None 0 3 (refl, (refl, (refl, tt))) (field t n 0) (omega arith) h
+  where
+    None : ℕ → Type 0
+    None k =
+        childIn (rowOf (kindOf k) .p) (field t n 1) ++ childIn (rowOf (kindOf k) .q) (field t n 2) ++ childIn (rowOf (kindOf k) .r) (field t n 3) ≡ []
+
 module _ (t : List ℕ) (sound : Sound t) where
   pub fits : (n : ℕ) → n < nodes t → NodeFits t n
   fits n h = node-fits t n (sound n h)
 
+  low : (n : ℕ) → n < nodes t → Below n (children t n)
+  low n h = children-below t n (fits n h)
+
   pub depth-words : (n : ℕ) → n < nodes t
-      → depthAt t n ≡ suc (max (max (wordDepth t (rowAt t n .p) (field t n 1)) (wordDepth t (rowAt t n .q) (field t n 2))) (wordDepth t (rowAt t n .r) (field t n 3)))
+      → depthAt t n
+      ≡ suc
+      (max (max (wordDepth t (rowAt t n .p) (field t n 1)) (wordDepth t (rowAt t n .q) (field t n 2)))
+      (wordDepth t (rowAt t n .r) (field t n 3)))
   unfolding children
   depth-words n h =
       let ps = childIn (rowAt t n .p) (field t n 1) in
       let qs = childIn (rowAt t n .q) (field t n 2) in
       let rs = childIn (rowAt t n .r) (field t n 3) in
-      depth-at t n (children-below t n (fits n h))
-      ∙ ap suc (deepest-append (depthAt t) (ps ++ qs) rs ∙ rw (deepest-append (depthAt t) ps qs))
+      depth-at t n (low n h) ∙ ap suc (deepest-append (depthAt t) (ps ++ qs) rs ∙ rw (deepest-append (depthAt t) ps qs))
+
+  -- a number or a variable
+  pub leaf-depth : (n : ℕ) → n < nodes t → getD t (4 * n) 0 < 3 → depthAt t n ≡ 1
+  unfolding deepest
+  leaf-depth n h l = depth-at t n (low n h) ∙ ap (λ (xs : List ℕ). suc (deepest (depthAt t) xs)) (no-children t n (rw add-zero l))
 
   -- a node is at most one deeper than its number
   pub depth-most : (n : ℕ) → n < nodes t → depthAt t n ≤ suc n
-  depth-most n h = below n n (omega arith) h
+  depth-most n h = within (suc n) n (omega arith) h
     where
-      below : (m n : ℕ) → n ≤ m → n < nodes t → depthAt t n ≤ suc n
-      below zero n l h = omega (arith, depth-at t n (children-below t n (fits n h)), deepest-below (depthAt t) n (children t n) (children-below t n (fits n h)) (λ x g. absurd (omega arith)))
-      below (suc m) n l h = omega (arith, depth-at t n (children-below t n (fits n h)), deepest-below (depthAt t) n (children t n) (children-below t n (fits n h)) (λ x g. let r = below m x (omega arith) (omega arith) in omega arith))
+      within : (m n : ℕ) → n < m → n < nodes t → depthAt t n ≤ suc n
+      within zero n l h = absurd (omega arith)
+      within (suc m) n l h =
+          let lower : (x : ℕ) → x < n → depthAt t x ≤ n = λ x g. let d = within m x (omega arith) (omega arith) in omega arith in
+          omega (arith, depth-at t n (low n h), deepest-below (depthAt t) n (children t n) (low n h) lower)
 
 -- ---- a step from a node to its first child, with one less to spend
 

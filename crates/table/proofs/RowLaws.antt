@@ -1,13 +1,13 @@
 -- A row as a number: its four digits give back the class and the slots, and a slot's number gives back the slot.
-use mathlib.Core.Path.{_≡_, refl, ap, sym, _∙_}
+use mathlib.Core.Path.{_≡_, refl, ap}
 use mathlib.Core.List.{List, [], _∷_}
-use Prim.Native.Nat.{ℕ, suc, _+_, _*_, _/_, _%_, _<_, _≤_}
+use Prim.Native.Nat.{ℕ, _*_, _/_, _%_, _<_, _≤_}
 use native.Mathlib.Omega.{arith}
 use lib.Dec.{eqb, lit≤}
 use lib.ListN.{getD}
 use borrow.Author.Tests.{eqb-true}
 use Rattle.rules.specs.Lists.{fetch, every}
-use Rattle.rules.specs.Table.{kindOf, rowOf, Row, Class, arithmetic, boolean, statement, no-class, rank, Slot, unused, any, var, child}
+use Rattle.rules.specs.Table.{kindOf, rowOf, rowAt, Row, Class, arithmetic, boolean, statement, no-class, rank, Slot, unused, any, var, child}
 use Rattle.rules.proofs.ListLaws.{every-true}
 use Rattle.rules.proofs.TableLaws.{kind-past}
 use Rattle.table.specs.Marks.{slotCode, rowCode, Rows}
@@ -80,3 +80,7 @@ rows-right k h = eqb-true _ _ (every-true (λ k. eqb (getD rowsOfCode k 0) (rowC
 pub row-past : (k : ℕ) → 37 ≤ k → 13380 ≡ rowCode (rowOf (kindOf k))
 unfolding rowOf rowCode slotCode
 row-past k h = rw (kind-past k h)
+
+-- the row that the code reads is the node's
+pub row-read : (t : List ℕ) (n : ℕ) → rowCode (rowOf (kindOf (getD t (4 * n) 0))) ≡ rowCode (rowAt t n)
+row-read t n = ap (λ (i : ℕ). rowCode (rowOf (kindOf (getD t i 0)))) (omega arith)

@@ -1,7 +1,9 @@
 -- What the check keeps: the rows of 01's table as numbers, and the marks of the children named so far.
 use Prim.Native.Nat.{ℕ, _+_, _*_, _<_, _≤_, min}
 use mathlib.Core.Path.{_≡_}
+use mathlib.Core.Bool.{Bool, true}
 use mathlib.Core.List.{List, [], _∷_}
+use lib.Dec.{eqb}
 use lib.ListN.{getD, set, replicate}
 use Rattle.rules.specs.Lists.{joined}
 use Rattle.rules.specs.Refusal.{fine}
@@ -39,12 +41,12 @@ pub record Within (t : List ℕ) (n : ℕ) : Type 0 where
   pub inside : n < nodes t
   pub few : nodes t ≤ 1024
 
--- a word's fault is r, and where there is none the child that it names is marked
-pub record Placed (t : List ℕ) (n : ℕ) (s : Slot) (w : ℕ) (m : List ℕ) (r : ℕ) (m′ : List ℕ) : Type 0 where
-  pub fault : r ≡ wordFault t n s w
-  pub marked : r ≡ fine → m′ ≡ bumps m (childIn s w)
+-- r is whether a word has no fault, and then the child that it names is marked
+pub record Placed (t : List ℕ) (n : ℕ) (s : Slot) (w : ℕ) (m : List ℕ) (r : Bool) (m′ : List ℕ) : Type 0 where
+  pub right : r ≡ eqb (wordFault t n s w) fine
+  pub marked : r ≡ true → m′ ≡ bumps m (childIn s w)
 
--- a node's fault is r, and where there is none its children are marked
-pub record Walked (t : List ℕ) (n : ℕ) (m : List ℕ) (r : ℕ) (m′ : List ℕ) : Type 0 where
-  pub fault : r ≡ nodeFault t n
-  pub marked : r ≡ fine → m′ ≡ bumps m (children t n)
+-- r is whether a node has no fault, and then its children are marked
+pub record Walked (t : List ℕ) (n : ℕ) (m : List ℕ) (r : Bool) (m′ : List ℕ) : Type 0 where
+  pub right : r ≡ eqb (nodeFault t n) fine
+  pub marked : r ≡ true → m′ ≡ bumps m (children t n)

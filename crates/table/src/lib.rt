@@ -5,14 +5,25 @@ use rules::Checked;
 use rules::Refusal;
 ghost use mathlib.Core.Path.{_≡_};
 ghost use mathlib.Core.Bool.{_&&_};
+ghost use mathlib.Core.Option.{some};
 ghost use Prim.Native.Nat.{ℕ, _%_, _<_, _≤_, min};
 ghost use lib.Dec.{eqb, ltb, leb};
 ghost use lib.ListN.{getD};
 ghost use Rattle.rules.specs.Lists.{joined};
-ghost use Rattle.rules.specs.Refusal.{fine, refuseLowest};
-ghost use Rattle.rules.specs.Table.{Slot, nodes, root, nodeFault, childIn, children, deepest, depthAt};
+ghost use Rattle.rules.specs.Refusal.{refusal, refuseLowest};
+ghost use Rattle.rules.specs.Table.{Slot, nodes, root, wordFault, nodeFault, childIn, children, deepest, depthAt};
 ghost use Rattle.table.specs.Checking.{answer, checking, treeRefusal, Sound};
 ghost use Rattle.table.specs.Marks.{slotCode, Rows, bump, bumps, marksOf, Within, Placed, Walked};
+
+fn refused(number: u32, place: usize) -> Checked
+    requires { ⌜ place < 1024 ⌝ }
+    ensures { λ r. ⌜ r ≡ answer (some (refusal number place)) ⌝ }
+{
+    Checked::Refused(Refusal {
+        number,
+        place: place as u32,
+    })
+}
 
 // Marks k as a child: 1 for the first time, 2 for every later one.
 fn mark(marks: &mut [u8; 1024], k: usize)
@@ -26,26 +37,8 @@ fn mark(marks: &mut [u8; 1024], k: usize)
     }
 }
 
-// 5 or 6 for a child w of node n, which is to be of this class, or 99; then it is marked.
-fn child(t: &[u32], rows: &[u16; 37], n: usize, class: u16, w: u32, marks: &mut [u8; 1024]) -> u32
-    requires { ⌜ Within (now t) n × Rows (now rows) ⌝ }
-    ensures { λ r. ⌜ ((s : Slot) → slotCode s ≡ class → class < 4 → Placed (now (t .entry)) n s w (now (marks .entry)) r (now (marks .exit))) ⌝ }
-{
-    let k = w as usize;
-    if k < n {
-        if rows::row_of(rows, t[4 * k]) / 4096 == class {
-            mark(marks, k);
-            99
-        } else {
-            6
-        }
-    } else {
-        5
-    }
-}
-
 // The greatest word that a slot takes which is no child.
-fn greatest(slot: u16) -> u32
+fn greatest(slot: u32) -> u32
     ensures { λ r. ⌜ (slot ≡ 4 → r ≡ 0) × (slot ≡ 5 → r ≡ 4294967295) × (slot ≡ 6 → r ≡ 31) ⌝ }
 {
     match slot {
@@ -55,13 +48,72 @@ fn greatest(slot: u16) -> u32
     }
 }
 
-// 3, 4, 5 or 6 for the word w of node n in this slot, or 99.
-fn word(t: &[u32], rows: &[u16; 37], n: usize, slot: u16, w: u32, marks: &mut [u8; 1024]) -> u32
+// Whether w is a child as node n asks, of this class; then it is marked.
+fn child(t: &[u32], rows: &[u32; 37], n: usize, class: u32, w: u32, marks: &mut [u8; 1024]) -> bool
+    requires { ⌜ Within (now t) n × Rows (now rows) ⌝ }
+    ensures { λ r. ⌜ ((s : Slot) → slotCode s ≡ class → class < 4 → Placed (now (t .entry)) n s w (now (marks .entry)) r (now (marks .exit))) ⌝ }
+{
+    let k = w as usize;
+    if n <= k {
+        return false;
+    }
+    if rows::row_at(t, rows, k) / 4096 != class {
+        return false;
+    }
+    mark(marks, k);
+    true
+}
+
+// Whether the word w of node n is as this slot asks; then the child that it names is marked.
+fn word(t: &[u32], rows: &[u32; 37], n: usize, slot: u32, w: u32, marks: &mut [u8; 1024]) -> bool
     requires { ⌜ Within (now t) n × Rows (now rows) ⌝ }
     ensures { λ r. ⌜ ((s : Slot) → slotCode s ≡ slot → Placed (now (t .entry)) n s w (now (marks .entry)) r (now (marks .exit))) ⌝ }
 {
     if slot < 4 {
         return child(t, rows, n, slot, w, marks);
+    }
+    if w == 0 {
+        return true;
+    }
+    if w <= greatest(slot) {
+        return true;
+    }
+    false
+}
+
+// Whether node n is not refused; then its children are marked.
+fn node(t: &[u32], rows: &[u32; 37], n: usize, marks: &mut [u8; 1024]) -> bool
+    requires { ⌜ Within (now t) n × Rows (now rows) ⌝ }
+    ensures { λ r. ⌜ Walked (now (t .entry)) n (now (marks .entry)) r (now (marks .exit)) ⌝ }
+{
+    let at = 4 * n;
+    let row = rows::row_at(t, rows, n);
+    if row / 4096 == 3 {
+        return false;
+    }
+    if !word(t, rows, n, row / 256 % 16, t[at + 1], marks) {
+        return false;
+    }
+    if !word(t, rows, n, row / 16 % 16, t[at + 2], marks) {
+        return false;
+    }
+    word(t, rows, n, row % 16, t[at + 3], marks)
+}
+
+// 3, 4, 5 or 6 for the word w of node n in this slot, or 99.
+fn word_fault(t: &[u32], rows: &[u32; 37], n: usize, slot: u32, w: u32) -> u32
+    requires { ⌜ Within (now t) n × Rows (now rows) ⌝ }
+    ensures { λ r. ⌜ ((s : Slot) → slotCode s ≡ slot → r ≡ wordFault (now (t .entry)) n s w) ⌝ }
+{
+    if slot < 4 {
+        let k = w as usize;
+        if n <= k {
+            return 5;
+        }
+        if rows::row_at(t, rows, k) / 4096 != slot {
+            return 6;
+        }
+        return 99;
     }
     if w <= greatest(slot) {
         return 99;
@@ -75,24 +127,24 @@ fn lower(a: u32, b: u32) -> u32
     if a < b { a } else { b }
 }
 
-// "the lowest number at a node first": 2 to 6 for node n, or 99; then its children are marked.
-fn node(t: &[u32], rows: &[u16; 37], n: usize, marks: &mut [u8; 1024]) -> u32
+// "the lowest number at a node first": 2 to 6 for node n, or 99.
+fn node_fault(t: &[u32], rows: &[u32; 37], n: usize) -> u32
     requires { ⌜ Within (now t) n × Rows (now rows) ⌝ }
-    ensures { λ r. ⌜ Walked (now (t .entry)) n (now (marks .entry)) r (now (marks .exit)) ⌝ }
+    ensures { λ r. ⌜ r ≡ nodeFault (now (t .entry)) n ⌝ }
 {
     let at = 4 * n;
-    let row = rows::row_of(rows, t[at]);
+    let row = rows::row_at(t, rows, n);
     if row / 4096 == 3 {
         return 2;
     }
-    let p = word(t, rows, n, row / 256 % 16, t[at + 1], marks);
-    let q = word(t, rows, n, row / 16 % 16, t[at + 2], marks);
-    let r = word(t, rows, n, row % 16, t[at + 3], marks);
+    let p = word_fault(t, rows, n, row / 256 % 16, t[at + 1]);
+    let q = word_fault(t, rows, n, row / 16 % 16, t[at + 2]);
+    let r = word_fault(t, rows, n, row % 16, t[at + 3]);
     lower(p, lower(q, r))
 }
 
 // "Numbers 2 to 6 go node by node from 0": the first node with a fault. Where there is none, every child is marked.
-fn walk(t: &[u32], rows: &[u16; 37], marks: &mut [u8; 1024]) -> Checked
+fn walk(t: &[u32], rows: &[u32; 37], marks: &mut [u8; 1024]) -> Checked
     requires { ⌜ (nodes (now t) ≤ 1024) × Rows (now rows) ⌝ }
     ensures faults { λ r. ⌜ r ≡ answer (refuseLowest (nodeFault (now (t .entry))) (nodes (now (t .entry)))) ⌝ }
     ensures marked { λ r. ⌜ (Sound (now (t .entry)) → now (marks .exit) ≡ bumps (now (marks .entry)) (joined (children (now (t .entry))) (nodes (now (t .entry))))) ⌝ }
@@ -100,12 +152,8 @@ fn walk(t: &[u32], rows: &[u16; 37], marks: &mut [u8; 1024]) -> Checked
     let count = t.len() / 4;
     let mut n = 0;
     while n < count {
-        let fault = node(t, rows, n, marks);
-        if fault != 99 {
-            return Checked::Refused(Refusal {
-                number: fault,
-                place: n as u32,
-            });
+        if !node(t, rows, n, marks) {
+            return refused(node_fault(t, rows, n), n);
         }
         n += 1;
     }
@@ -127,8 +175,9 @@ fn first_not_one(marks: &[u8; 1024], root: usize) -> usize
     k
 }
 
-// Whether the word w in this slot is no child, or one at most this deep. A node is at most one deeper than its number.
-fn under(t: &[u32], rows: &[u16; 37], slot: u16, w: u32, budget: usize) -> bool
+// Whether the word w in this slot is no child, or one at most this deep. A node is at most one deeper than its number, and a number
+// or a variable has depth 1.
+fn under(t: &[u32], rows: &[u32; 37], slot: u32, w: u32, budget: usize) -> bool
     requires { ⌜ Sound (now t) × Rows (now rows) × (slot < 4 → w < nodes (now t)) ⌝ }
     ensures { λ r. ⌜ ((s : Slot) → slotCode s ≡ slot → r ≡ leb (deepest (depthAt (now (t .entry))) (childIn s w)) budget) ⌝ }
 {
@@ -139,12 +188,15 @@ fn under(t: &[u32], rows: &[u16; 37], slot: u16, w: u32, budget: usize) -> bool
     if k < budget {
         return true;
     }
+    if t[4 * k] < 3 {
+        return 0 < budget;
+    }
     shallow(t, rows, k, budget)
 }
 
 // Whether node top is at most this deep. The first child is looked at in the next pass, the others by calls with a lesser budget, so
 // that calls nest no deeper than the budget.
-fn shallow(t: &[u32], rows: &[u16; 37], top: usize, budget: usize) -> bool
+fn shallow(t: &[u32], rows: &[u32; 37], top: usize, budget: usize) -> bool
     requires { ⌜ Sound (now t) × Rows (now rows) × (top < nodes (now t)) ⌝ }
     ensures { λ r. ⌜ r ≡ leb (depthAt (now (t .entry)) top) budget ⌝ }
 {
@@ -154,9 +206,12 @@ fn shallow(t: &[u32], rows: &[u16; 37], top: usize, budget: usize) -> bool
         if left == 0 {
             return false;
         }
-        left -= 1;
         let at = 4 * n;
-        let row = rows::row_of(rows, t[at]);
+        if t[at] < 3 {
+            return true;
+        }
+        left -= 1;
+        let row = rows::row_at(t, rows, n);
         if !under(t, rows, row / 16 % 16, t[at + 2], left) {
             return false;
         }
@@ -172,31 +227,22 @@ fn shallow(t: &[u32], rows: &[u16; 37], top: usize, budget: usize) -> bool
 }
 
 // Refusals 7 to 9, where no node is refused and every child is marked.
-fn check_tree(t: &[u32], rows: &[u16; 37], marks: &[u8; 1024]) -> Checked
+fn check_tree(t: &[u32], rows: &[u32; 37], marks: &[u8; 1024]) -> Checked
     requires { ⌜ Within (now t) (root (now t)) × Sound (now t) × (now marks ≡ marksOf (now t)) × Rows (now rows) ⌝ }
     ensures { λ r. ⌜ r ≡ answer (treeRefusal (now (t .entry))) ⌝ }
 {
     let root = t.len() / 4 - 1;
-    if rows::row_of(rows, t[4 * root]) / 4096 != 2 {
-        return Checked::Refused(Refusal {
-            number: 7,
-            place: root as u32,
-        });
-    }
     let k = first_not_one(marks, root);
+    if rows::row_at(t, rows, root) / 4096 != 2 {
+        return refused(7, root);
+    }
     if k < root {
-        return Checked::Refused(Refusal {
-            number: 8,
-            place: k as u32,
-        });
+        return refused(8, k);
     }
     if shallow(t, rows, root, 256) {
         Checked::Done
     } else {
-        Checked::Refused(Refusal {
-            number: 9,
-            place: 0,
-        })
+        refused(9, 0)
     }
 }
 
@@ -211,10 +257,7 @@ pub fn check(table: &[u32]) -> Checked
     ensures { λ r. ⌜ r ≡ checking (now (table .entry)) ⌝ }
 {
     if !whole(table.len()) {
-        return Checked::Refused(Refusal {
-            number: 1,
-            place: 0,
-        });
+        return refused(1, 0);
     }
     let rows = rows::ROWS;
     let mut marks = [0u8; 1024];

@@ -1,10 +1,11 @@
 // The rows of 01's table as numbers: four hexadecimal digits, the class of the kind and what its words p, q and r are. A class is
 // 0 arithmetic, 1 boolean, 2 statement or 3 none. A word is a child of one of these classes, 4 unused, 5 any number or 6 a variable.
 ghost use mathlib.Core.Path.{_≡_};
-ghost use Rattle.rules.specs.Table.{kindOf, rowOf};
+ghost use Prim.Native.Nat.{_<_};
+ghost use Rattle.rules.specs.Table.{nodes, rowAt};
 ghost use Rattle.table.specs.Marks.{rowCode, Rows};
 
-pub const ROWS: [u16; 37] = [
+pub const ROWS: [u32; 37] = [
     0x3444,
     0x0544, // 1 number
     0x0644, // 2 variable
@@ -44,11 +45,11 @@ pub const ROWS: [u16; 37] = [
     0x2124, // 36 while
 ];
 
-// The table is lent, so that it is laid down once for a whole check and not at every look.
-pub fn row_of(rows: &[u16; 37], kind: u32) -> u16
-    requires { ⌜ Rows (now rows) ⌝ }
-    ensures { λ r. ⌜ r ≡ rowCode (rowOf (kindOf kind)) ⌝ }
+// The row of node n. The rows are lent, so that they are laid down once for a whole check and not at every look.
+pub fn row_at(t: &[u32], rows: &[u32; 37], n: usize) -> u32
+    requires { ⌜ (n < nodes (now t)) × Rows (now rows) ⌝ }
+    ensures { λ r. ⌜ r ≡ rowCode (rowAt (now (t .entry)) n) ⌝ }
 {
-    let k = kind as usize;
+    let k = t[4 * n] as usize;
     if k < 37 { rows[k] } else { 0x3444 }
 }

@@ -1,5 +1,5 @@
--- `emit` writes the code of a node's statement. The measure is the node number. Each arm's node is read in Nodes, and what the arm's
--- writes come to is a law of Arms; here the two are put together. Assumes nothing.
+-- `emit` writes the code of a node's statement. The measure is the node number. Each arm's node is read in Nodes, and what the
+-- arm's writes come to is a law of Arms; here the two are put together. Assumes nothing.
 use mathlib.Core.Path.{_≡_, _∙_}
 use mathlib.Core.List.{List}
 use Prim.Native.Nat.{ℕ, _<_}
@@ -10,7 +10,8 @@ use borrow.Fn.PlainCycle.{Measures, is, falls, and}
 use Rattle.rules.specs.While.{Stm}
 use Rattle.rules.specs.Compilation.{size}
 use Rattle.compiler.specs.Writing.{Fits}
-use Rattle.compiler.proofs.Nodes.{in-table, Sized, SequenceAt, IfAt, WhileAt, assign-at, sequence-at, if-at, while-at, skip-at}
+use Rattle.compiler.proofs.Nodes.{in-table, Sized, SequenceAt, IfAt, WhileAt}
+use Rattle.compiler.proofs.Nodes.{assign-at, sequence-at, if-at, while-at, skip-at}
 use Rattle.compiler.proofs.Arms.{skip-written, assign-written, seq-written, if-written, while-written}
 use Rattle.compiler.proofs.emit.Reads as emit
 use Rattle.compiler.proofs.emit.Kinds as emit-kinds
@@ -111,7 +112,7 @@ module _ (t : ℕ) where
   returns c =
       let a = c .before .before .before .before in
       let v = assign-here t (a .before) (a .match .keys1) in
-      rw (v .stm) (assign-written _ _ _ _ _ _ (c .before .before .put-assign .ensures))
+      rw (v .stm) (assign-written (c .before .before .put-assign .ensures))
 
   -- ---- a sequence
 
@@ -128,14 +129,17 @@ module _ (t : ℕ) where
       (omega (arith, second .below), second .fits)
 
   same-length-2 : emit-lts.Need-same-length-2 (known t) (emit-at t) emit.Post
-  same-length-2 c = let b = c .before .before in let a = b .before .before .before .before in b .emit2 .kept .1 .1 .1 .0 ∙ a .emit .kept .1 .1 .1 .0
+  same-length-2 c =
+      let b = c .before .before in
+      let a = b .before .before .before .before in
+      b .emit2 .kept .1 .1 .1 .0 ∙ a .emit .kept .1 .1 .1 .0
 
   returns-2 : emit-lts.Need-returns-2 (known t) (emit-at t) emit.Post
   returns-2 c =
       let b = c .before .before in
       let a = b .before .before .before .before in
       let v = sequence-here t (a .before .before .before) (a .before .before .match .keys2) in
-      rw (v .sized .stm) (seq-written _ _ _ _ _ _ _ _ _ (a .emit .ensures) (b .emit2 .ensures))
+      rw (v .sized .stm) (seq-written (a .emit .ensures) (b .emit2 .ensures))
 
   -- ---- an if
 
@@ -204,7 +208,7 @@ module _ (t : ℕ) where
       let then = other .before .before .before .before in
       let v = if-here t (then .before .before .before) (then .before .before .match .keys3) in
       rw (v .sized .stm)
-      (if-written _ _ _ _ _ _ _ _ _ _ _ _ (then .emit3 .ensures) (other .emit4 .ensures) (test .put-ifnot .ensures) (jump .put-goto .ensures))
+      (if-written (then .emit3 .ensures) (other .emit4 .ensures) (test .put-ifnot .ensures) (jump .put-goto .ensures))
 
   -- ---- a while
 
@@ -260,14 +264,15 @@ module _ (t : ℕ) where
       let test = jump .before .before .before .before in
       let body = test .before .before .before .before in
       let v = while-here t (body .before .before .before) (body .before .before .match .keys4) in
-      rw (v .sized .stm) (while-written _ _ _ _ _ _ _ _ _ (body .emit5 .ensures) (test .put-ifnot2 .ensures) (jump .put-goto2 .ensures))
+      rw (v .sized .stm) (while-written (body .emit5 .ensures) (test .put-ifnot2 .ensures) (jump .put-goto2 .ensures))
 
   -- ---- a skip
 
   returns-5 : emit-lts.Need-returns-5 (known t) (emit-at t) emit.Post
   returns-5 c =
-      let no = c .match .rest in
-      rw (skip-at (fit t (c .before)) (c .before .load .ensures) (no .0 .0 .0 .1) (no .0 .0 .1) (no .0 .1) (no .1)) (skip-written _ _ _)
+      let other = c .match .rest in
+      let v = skip-at (fit t (c .before)) (c .before .load .ensures) (other .0 .0 .0 .1) (other .0 .0 .1) (other .0 .1) (other .1) in
+      rw v skip-written
 
 pub +emit-spec : {M : Type 1} → statement M
 +emit-spec =

@@ -1,60 +1,46 @@
+-- `load` reads the words of a node. Assumes nothing.
 use borrow.Author.Needs.{needs}
 use mathlib.Core.Path.{refl}
 use native.Mathlib.Nat.{add-zero}
 use Rattle.compiler.proofs.load.Statement.{statement}
 use Rattle.compiler.proofs.load.Tie as tie
-use Rattle.compiler.proofs.load.Reads as reads
-use Rattle.compiler.proofs.load.Lts as lts
 
--- src/lib.rt:27:14
 mul-at : tie.Need-mul-at
 mul-at c = search needs
 
--- src/lib.rt:29:15
 mul-t4 : tie.Need-mul-t4
 mul-t4 c = search needs
 
--- src/lib.rt:29:15
 shared-slice-read-t6 : tie.Need-shared-slice-read-t6
 shared-slice-read-t6 c = search needs
 
--- src/lib.rt:30:14
 add-t7 : tie.Need-add-t7
 add-t7 c = search needs
 
--- src/lib.rt:30:12
 mul-t8 : tie.Need-mul-t8
 mul-t8 c = search needs
 
--- src/lib.rt:30:12
 shared-slice-read-t10 : tie.Need-shared-slice-read-t10
 shared-slice-read-t10 c = search needs
 
--- src/lib.rt:31:14
 add-t11 : tie.Need-add-t11
 add-t11 c = search needs
 
--- src/lib.rt:31:12
 mul-t12 : tie.Need-mul-t12
 mul-t12 c = search needs
 
--- src/lib.rt:31:12
 shared-slice-read-t14 : tie.Need-shared-slice-read-t14
 shared-slice-read-t14 c = search needs
 
--- src/lib.rt:32:14
 add-t15 : tie.Need-add-t15
 add-t15 c = search needs
 
--- src/lib.rt:32:12
 mul-t16 : tie.Need-mul-t16
 mul-t16 c = search needs
 
--- src/lib.rt:32:12
 shared-slice-read-t18 : tie.Need-shared-slice-read-t18
 shared-slice-read-t18 c = search needs
 
--- src/lib.rt:23:1
 returns : tie.Need-returns
 returns c = record { is-kind = rw add-zero refl; is-p = refl; is-q = refl; is-r = refl }
 

@@ -1,65 +1,50 @@
+-- `put` writes the words of one instruction. Assumes nothing.
 use borrow.Author.Needs.{needs}
 use native.Mathlib.Omega.{arith}
 use native.Mathlib.Numerals.{add-one, add-two, add-three}
 use lib.ListN.{length-set}
 use Rattle.compiler.proofs.put.Statement.{statement}
 use Rattle.compiler.proofs.put.Tie as tie
-use Rattle.compiler.proofs.put.Reads as reads
-use Rattle.compiler.proofs.put.Lts as lts
 
--- src/lib.rt:41:14
 mul-at : tie.Need-mul-at
 mul-at c = search needs
 
--- src/lib.rt:42:5
 mul-room : tie.Need-mul-room
 mul-room c = search needs
 
--- src/lib.rt:42:5
 slice-write-room : tie.Need-slice-write-room
 slice-write-room c = search needs
 
--- src/lib.rt:43:10
 add-room : tie.Need-add-room
 add-room c = search needs
 
--- src/lib.rt:43:5
 mul-room-2 : tie.Need-mul-room-2
 mul-room-2 c = search needs
 
--- src/lib.rt:43:5
 slice-write-room-2 : tie.Need-slice-write-room-2
 slice-write-room-2 c = simp length-set (omega arith)
 
--- src/lib.rt:44:10
 add-room-2 : tie.Need-add-room-2
 add-room-2 c = search needs
 
--- src/lib.rt:44:5
 mul-room-3 : tie.Need-mul-room-3
 mul-room-3 c = search needs
 
--- src/lib.rt:44:5
 slice-write-room-3 : tie.Need-slice-write-room-3
 slice-write-room-3 c = simp length-set (omega arith)
 
--- src/lib.rt:45:10
 add-room-3 : tie.Need-add-room-3
 add-room-3 c = search needs
 
--- src/lib.rt:45:5
 mul-room-4 : tie.Need-mul-room-4
 mul-room-4 c = search needs
 
--- src/lib.rt:45:5
 slice-write-room-4 : tie.Need-slice-write-room-4
 slice-write-room-4 c = simp length-set (omega arith)
 
--- src/lib.rt:37:1
 same-length : tie.Need-same-length
 same-length c = search needs
 
--- src/lib.rt:37:1
 returns : tie.Need-returns
 returns c = rw (add-one, add-two, add-three)
 

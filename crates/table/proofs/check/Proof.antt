@@ -1,10 +1,9 @@
 -- `table::check` meets its contract: each part of the answer is that of a call, in the order of the numbers.
 use mathlib.Core.Path.{_≡_, sym, _∙_}
 use mathlib.Core.Bool.{true}
-use mathlib.Core.List.{List}
-use Prim.Native.Nat.{ℕ, _-_, _*_, _<_, _≤_}
+use Prim.Native.Nat.{_-_}
 use native.Mathlib.Omega.{arith}
-use Rattle.rules.specs.Table.{nodes, wholeTable}
+use Rattle.rules.specs.Table.{wholeTable}
 use Rattle.rules.proofs.TableLaws.{whole-table}
 use Rattle.table.specs.Checking.{Sound}
 use Rattle.table.specs.Marks.{marksOf}
@@ -14,11 +13,6 @@ use borrow.Author.Needs.{needs}
 use borrow.Author.Tests.{not-true, not-false}
 use Rattle.table.proofs.check.Statement.{statement}
 use Rattle.table.proofs.check.Tie as tie
-use Rattle.table.proofs.check.Reads as reads
-use Rattle.table.proofs.check.Lts as lts
-use Rattle.table.proofs.check_tree.Reads as check-tree-reads
-use Rattle.table.proofs.walk.Reads as walk-reads
-use Rattle.table.proofs.whole.Reads as whole-reads
 
 is-whole : (c : tie.Else1) → wholeTable (c .before .before .before .args .table .now) ≡ true
 unfolding wholeTable
@@ -30,9 +24,14 @@ is-sound c = sound-nodes _ (sym (c .enum-told .given .1) ∙ c .before .before .
 whole-requires : tie.Need-whole-requires
 whole-requires c κs = search needs
 
+refused-requires : tie.Need-refused-requires
+refused-requires c κs = search needs
+
 returns : tie.Need-returns
 unfolding wholeTable
-returns c = sym (refused-1 _ (sym (c .before .whole .ensures) ∙ not-true _ (c .if1 .taken)))
+returns c =
+    let test = c .before in
+    c .refused .ensures ∙ sym (refused-1 _ (sym (test .before .whole .ensures) ∙ not-true _ (test .if1 .taken)))
 
 walk-requires : tie.Need-walk-requires
 unfolding rowsOfCode
@@ -67,6 +66,7 @@ check-spec =
     tie.close
     (tie.spec
     whole-requires
+    refused-requires
     returns
     walk-requires
     enum-told

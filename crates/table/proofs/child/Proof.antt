@@ -1,50 +1,38 @@
 -- `table::child` meets its contract.
+use mathlib.Core.Path.{_∙_, sym, ap}
+use native.Mathlib.Omega.{arith}
+use Rattle.table.specs.Marks.{bumps}
+use Rattle.table.proofs.WordLaws.{fault-5, fault-6, child-fine, child-named, placed, not-placed}
 use borrow.Author.Needs.{needs}
-use Rattle.table.proofs.WordLaws.{child-right, child-wrong, child-above}
 use Rattle.table.proofs.child.Statement.{statement}
 use Rattle.table.proofs.child.Tie as tie
-use Rattle.table.proofs.child.Reads as reads
-use Rattle.table.proofs.child.Lts as lts
-use Rattle.table.proofs.mark.Reads as mark-reads
-use Rattle.table.proofs.rows.row_of.Reads as row-of-reads
 
-mul-row-of : tie.Need-mul-row-of
-mul-row-of c = search needs
+returns : tie.Need-returns
+returns c = λ s e h.
+    let l = fault-5 (c .before .before .args .t .now) (c .before .before .args .n) (c .before .before .args .w) s _ e h (c .if1 .taken) in
+    not-placed _ _ _ _ _ _ (omega arith)
 
-mul-row-of-2 : tie.Need-mul-row-of-2
-mul-row-of-2 c = search needs
+row-at-requires : tie.Need-row-at-requires
+row-at-requires c κs = search needs
 
-shared-slice-read-row-of : tie.Need-shared-slice-read-row-of
-shared-slice-read-row-of c = search needs
-
-row-of-requires : tie.Need-row-of-requires
-row-of-requires c κs = search needs
+returns-2 : tie.Need-returns-2
+returns-2 c = λ s e h.
+    let read = c .before in
+    let start = read .before .before .before in
+    let l = fault-6 (start .args .t .now) (start .args .n) (start .args .w) s _ e h _ (read .row-at .ensures) (read .before .if1 .left) (c .if2 .taken) in
+    not-placed _ _ _ _ _ _ (omega arith)
 
 mark-requires : tie.Need-mark-requires
 mark-requires c κs = search needs
 
-returns : tie.Need-returns
-returns c =
-    let read = c .before .before .before in
-    λ s e h. child-right _ _ _ s _ _ (read .row-of .result) e h (read .row-of .ensures) _ (read .before .before .if1 .taken) (c .before .before .if2 .taken) (c .mark .ensures)
-
-returns-2 : tie.Need-returns-2
-returns-2 c =
-    let read = c .before in
-    λ s e h. child-wrong _ _ _ s _ _ (read .row-of .result) e h (read .row-of .ensures) (read .before .before .if1 .taken) (c .if2 .left)
-
 returns-3 : tie.Need-returns-3
-returns-3 c = λ s e h. child-above _ _ _ s _ _ e h (c .if1 .left)
+unfolding bumps
+returns-3 c = λ s e h.
+    let read = c .before .before .before in
+    let start = read .before .before .before in
+    placed _ _ _ _ _ _
+    (child-fine (start .args .t .now) (start .args .n) (start .args .w) s _ e h _ (read .row-at .ensures) (read .before .if1 .left) (c .before .before .if2 .left))
+    (c .mark .ensures ∙ ap (bumps (start .args .marks .now)) (sym (child-named (start .args .t .now) (start .args .n) (start .args .w) s _ e h)))
 
 pub child-spec : {M : Type 1} → statement M
-child-spec =
-    tie.close
-    (tie.spec
-    mul-row-of
-    mul-row-of-2
-    shared-slice-read-row-of
-    row-of-requires
-    mark-requires
-    returns
-    returns-2
-    returns-3)
+child-spec = tie.close (tie.spec returns row-at-requires returns-2 mark-requires returns-3)

@@ -1,23 +1,20 @@
 -- `table::walk` meets its contract. The loop's invariant: no node passed has a fault, and the marks are those of their children.
-use mathlib.Core.Path.{_≡_, refl, ap, sym, _∙_}
+use mathlib.Core.Path.{_≡_, refl, sym, _∙_}
 use mathlib.Core.List.{List}
 use Prim.Native.Nat.{ℕ, _≤_, _<_, _-_}
 use native.Mathlib.Omega.{arith}
 use borrow.Author.Needs.{needs}
 use borrow.Author.Count.{below-more}
+use borrow.Author.Tests.{eqb-true, eqb-false, not-true, not-false}
 use Rattle.rules.specs.Lists.{joined}
-use Rattle.rules.specs.Refusal.{fine, refusal}
+use Rattle.rules.specs.Refusal.{fine}
 use Rattle.rules.specs.Table.{nodes, nodeFault, children}
-use Rattle.rules.specs.declared.Checked.{Checked}
 use Rattle.rules.proofs.ListLaws.{some-refuseLowest, none-refuseLowest}
 use Rattle.table.specs.Checking.{answer}
 use Rattle.table.specs.Marks.{bumps}
 use Rattle.table.proofs.MarkLaws.{marks-next}
 use Rattle.table.proofs.walk.Statement.{statement}
 use Rattle.table.proofs.walk.Tie as tie
-use Rattle.table.proofs.walk.Reads as reads
-use Rattle.table.proofs.walk.Lts as lts
-use Rattle.table.proofs.node.Reads as node-reads
 
 abbrev Inv-loop : tie.InvT-loop
 Inv-loop t rows marks₀ count n₀ marks n =
@@ -33,19 +30,24 @@ loop-holds c = (search needs, λ k h. absurd (omega arith), refl)
 node-requires : tie.Need-node-requires Inv-loop μ-loop
 node-requires c κs = (record { inside = search needs; few = search needs }, c .before .before .before .before .pre .1)
 
-cast-t10 : tie.Need-cast-t10 Inv-loop μ-loop
-cast-t10 c = search needs
+refused-requires : tie.Need-refused-requires Inv-loop μ-loop
+refused-requires c κs = search needs
+
+node-fault-requires : tie.Need-node-fault-requires Inv-loop μ-loop
+node-fault-requires c κs = (record { inside = search needs; few = search needs }, c .before .before .before .before .before .before .pre .1)
 
 returns : tie.Need-returns Inv-loop μ-loop
-unfolding answer
 returns c =
-    let here = c .before .before .before .before in
+    let told = c .before in
+    let seen = told .before .before in
+    let here = seen .before .before .before in
     let t : List ℕ = here .before .before .args .t .now in
     let n : ℕ = here .loop .n in
-    let seen = c .before .node .ensures in
     let inside : n < nodes t = search needs in
-    let faulty : nodeFault t n ≡ fine → ⊥ = λ e. c .if1 .taken (seen .fault ∙ e) in
-    (rw (some-refuseLowest (nodeFault t) (nodes t) n inside faulty (here .loop .inv .1)) (ap (λ (x : ℕ). Checked.Refused (refusal x n)) (seen .fault)), λ s. absurd (faulty (s n inside)))
+    let wrong = sym (seen .node .ensures .right) ∙ not-true _ (told .before .if1 .taken) in
+    let faulty : nodeFault t n ≡ fine → ⊥ = eqb-false (nodeFault t n) fine wrong in
+    let found = some-refuseLowest (nodeFault t) (nodes t) n inside faulty (here .loop .inv .1) in
+    (c .refused .ensures ∙ rw (told .node-fault .ensures, found), λ s. absurd (faulty (s n inside)))
 
 add-n : tie.Need-add-n Inv-loop μ-loop
 add-n c = search needs
@@ -57,7 +59,9 @@ loop-again : tie.Need-loop-again Inv-loop μ-loop
 loop-again c =
     let here = c .before .before .before .before in
     let seen = c .before .node .ensures in
-    (search needs, below-more _ _ (here .loop .inv .1) (sym (seen .fault) ∙ c .if1 .left), marks-next _ _ _ _ _ (here .loop .inv .2) (seen .marked (c .if1 .left)))
+    let right = not-false _ (c .if1 .left) in
+    let all-fine = below-more _ _ (here .loop .inv .1) (eqb-true _ fine (sym (seen .right) ∙ right)) in
+    (search needs, all-fine, marks-next _ _ _ _ _ (here .loop .inv .2) (seen .marked right))
 
 returns-2 : tie.Need-returns-2 Inv-loop μ-loop
 unfolding answer
@@ -75,7 +79,8 @@ walk-spec =
     μ-loop
     loop-holds
     node-requires
-    cast-t10
+    node-fault-requires
+    refused-requires
     returns
     add-n
     loop-less
