@@ -1,0 +1,60 @@
+//! The cost of a call that does not run anything: check, compilation, text.
+
+use crate::measure::{columns, side_by_side, timed};
+use crate::ours::Ours;
+use crate::workloads::table_of_1000_nodes;
+use outside::oracle;
+use outside::oracle::answer::{Answer, DONE};
+use std::hint::black_box;
+use std::time::Duration;
+
+/// Calls timed together.
+const CALLS: u64 = 20;
+
+pub fn calls(ours: &Ours) {
+    let table = table_of_1000_nodes();
+    let mut text = vec![1; 33 * 1000];
+    oracle::write_text(&table, &mut text);
+    // Each side has its own rooms.
+    let (mut words, mut plain_words) = (vec![1; 4096], vec![1; 4096]);
+    let (mut bytes, mut plain_bytes) = (vec![1; 33 * 1024], vec![1; 33 * 1024]);
+
+    println!("\n| Call | Ours, ns/call | Plain Rust, ns/call | Ours/plain |");
+    println!("|---|---:|---:|---:|");
+    let row = |name, pair| println!("| {name} | {} |", columns(pair));
+    row("check of 1,000 nodes", {
+        side_by_side(CALLS, || repeat(|| ours.check(&table)), || repeat(|| oracle::check(&table)))
+    });
+    row("compilation of 1,000 nodes", {
+        side_by_side(
+            CALLS,
+            || repeat(|| ours.compile(&table, 1, &mut words)),
+            || repeat(|| oracle::compile(&table, 1, &mut plain_words)),
+        )
+    });
+    row("reading text of 1,000 frames", {
+        side_by_side(
+            CALLS,
+            || repeat(|| ours.read_text(&text, &mut words)),
+            || repeat(|| oracle::read_text(&text, &mut plain_words)),
+        )
+    });
+    row("writing text of 1,000 frames", {
+        side_by_side(
+            CALLS,
+            || repeat(|| ours.write_text(&table, &mut bytes)),
+            || repeat(|| oracle::write_text(&table, &mut plain_bytes)),
+        )
+    });
+    assert!(words == plain_words && bytes == plain_bytes);
+}
+
+/// The time of all the calls together. Each answer is looked at, so that no call can be left out.
+fn repeat(mut call: impl FnMut() -> Answer) -> Duration {
+    let (time, ()) = timed(|| {
+        for _ in 0..CALLS {
+            assert_eq!(black_box(call())[0], DONE);
+        }
+    });
+    time
+}

@@ -1,0 +1,27 @@
+//! Prints, as markdown, what a step or a call costs: ours beside plain Rust (the oracle of tests/outside), and Lua.
+
+mod calls;
+mod lua;
+mod measure;
+mod ours;
+mod runs;
+mod workloads;
+
+use ours::Ours;
+
+fn main() {
+    let ours = Ours::new();
+    println!("Ours: {}. Plain Rust: the oracle of tests/outside.\n", outside::calls::SUBJECT);
+    println!("- {}", measure::METHOD);
+    println!(
+        "- buffers were filled once before the first call, so that their pages are in memory, and not cleared again"
+    );
+    println!("- the store was set before each run, outside the timing");
+    println!("- the time of a run includes the check of its table and code");
+    if !lua::installed() {
+        println!("- Lua 5.4: not installed");
+    }
+    runs::programs(&ours);
+    runs::code_lengths(&ours);
+    calls::calls(&ours);
+}

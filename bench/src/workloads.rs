@@ -1,0 +1,138 @@
+//! What is run: three programs, hand-written code, and the inputs for checking, compiling and text.
+
+use outside::oracle;
+use outside::trees::*;
+use outside::worked::loop_program;
+
+pub struct Program {
+    pub name: &'static str,
+    pub table: Vec<u32>,
+    /// Its code at label 1, compiled or written by hand.
+    pub code: Vec<u32>,
+    pub by_hand: bool,
+    /// The first value of v0; all other variables begin at 0.
+    pub from: i32,
+    /// The same program in Lua, under bench/lua.
+    pub lua: Option<&'static str>,
+}
+
+pub fn programs() -> Vec<Program> {
+    vec![
+        compiled("the loop of document 01", loop_program(), 1_500_000, "loop.lua"),
+        compiled("choose, quotient and remainder", expressions(), 10_000, "expressions.lua"),
+        compiled("a dozen ifs with empty branches", empty_branches(), 4_000, "ifs.lua"),
+        gaps(),
+    ]
+}
+
+fn compiled(name: &'static str, tree: Tree, from: i32, lua: &'static str) -> Program {
+    let table = tree.table();
+    let code = code_of(&table);
+    Program { name, table, code, by_hand: false, from, lua: Some(lua) }
+}
+
+fn code_of(table: &[u32]) -> Vec<u32> {
+    let mut code = vec![0; 4096];
+    let answer = oracle::compile(table, 1, &mut code);
+    code.truncate(4 * answer[4] as usize);
+    code
+}
+
+/// "while 0 < v0 do (body; v0 := v0 - 1)".
+fn down_to_zero(mut body: Vec<Tree>) -> Tree {
+    body.push(assign(0, operation(DIFFERENCE, variable(0), number(1))));
+    while_do(comparison(LESS, number(0), variable(0)), sequence_of(body))
+}
+
+/// Values stay from 0 to 10006, so that Lua's quotients and remainders are ours.
+fn expressions() -> Tree {
+    let by = |kind, left, right: i32| operation(kind, left, number(right));
+    // v1 := (choose v0 mod 3 = 0: v1 + v0 / 7, else v1 * 3 + v0 mod 5) mod 10007
+    let first = assign(
+        1,
+        by(
+            REMAINDER,
+            choose(
+                comparison(EQUAL, by(REMAINDER, variable(0), 3), number(0)),
+                operation(SUM, variable(1), by(QUOTIENT, variable(0), 7)),
+                operation(SUM, by(PRODUCT, variable(1), 3), by(REMAINDER, variable(0), 5)),
+            ),
+            10007,
+        ),
+    );
+    // v2 := (choose v1 <= v2: v2 / 2 + v0 mod 11, else v2 + v1 / 3) mod 1009
+    let second = assign(
+        2,
+        by(
+            REMAINDER,
+            choose(
+                comparison(AT_MOST, variable(1), variable(2)),
+                operation(SUM, by(QUOTIENT, variable(2), 2), by(REMAINDER, variable(0), 11)),
+                operation(SUM, variable(2), by(QUOTIENT, variable(1), 3)),
+            ),
+            1009,
+        ),
+    );
+    down_to_zero(vec![first, second])
+}
+
+/// For i from 1 to 12: "if v0 mod (i + 1) = 0", with an empty then branch for odd i and an empty else branch for even i;
+/// the other branch is "vi := vi + 1".
+fn empty_branches() -> Tree {
+    let ifs = (1..=12).map(|i| {
+        let test = comparison(EQUAL, operation(REMAINDER, variable(0), number(i + 1)), number(0));
+        let count = assign(i as u32, operation(SUM, variable(i as u32), number(1)));
+        match i % 2 {
+            1 => if_else(test, skip(), count),
+            _ => if_else(test, count, skip()),
+        }
+    });
+    down_to_zero(ifs.collect())
+}
+
+/// The loop of document 01 with its instructions far apart: assigns lead to a goto, gotos leap over the gaps.
+fn gaps() -> Program {
+    let table = loop_program().table();
+    #[rustfmt::skip]
+    let code = vec![
+        1, 3, 2, 60000,
+        2, 2, 0, 500,
+        500, 1, 0, 5,
+        501, 2, 0, 40000,
+        40000, 1, 1, 9,
+        40001, 2, 0, 1,
+    ];
+    Program { name: "hand-written code with gaps", table, code, by_hand: true, from: 1_500_000, lua: None }
+}
+
+/// A program of exactly 1,000 nodes: 99 ifs of nine nodes, an assign of two and four skips, with 103 sequences.
+pub fn table_of_1000_nodes() -> Vec<u32> {
+    let if_of_nine = |i: u32| {
+        let test = comparison(LESS, variable(i % 32), number(5));
+        let count = assign(i % 32, operation(SUM, variable(i % 32), number(1)));
+        if_else(test, count, skip())
+    };
+    let mut pieces: Vec<Tree> = (0..99).map(if_of_nine).collect();
+    pieces.push(assign(0, number(1)));
+    pieces.extend((0..4).map(|_| skip()));
+    let table = sequence_of(pieces).table();
+    assert_eq!(table.len(), 4 * 1000);
+    table
+}
+
+/// The table of "v0 := v0 + 1": node 2 is the sum.
+pub fn table_of_one_assign() -> Vec<u32> {
+    assign(0, operation(SUM, variable(0), number(1))).table()
+}
+
+/// Assigns one after the other, and a goto back to the first.
+pub fn code_in_line(instructions: u32) -> Vec<u32> {
+    let assigns = (0..instructions - 1).flat_map(|label| [label, 1, 0, 2]);
+    assigns.chain([instructions - 1, 2, 0, 0]).collect()
+}
+
+/// Gotos only: each leaps about three fifths of the code ahead and round, so that one after the other is reached.
+pub fn code_of_leaps(instructions: u32) -> Vec<u32> {
+    let leap = instructions * 3 / 5 + 1;
+    (0..instructions).flat_map(|label| [label, 2, 0, (label + leap) % instructions]).collect()
+}

@@ -1,0 +1,32 @@
+-- The calls of the C boundary: for every input the eight words of the answer, and what the lent buffer holds then. Each is the
+-- public function's own definition, its answer told in the words that `Answer` gives for the answer's cases.
+use Prim.Native.Nat.{ℕ}
+use mathlib.Core.List.{List}
+use lib.IntN.{ℤ}
+use Rattle.rules.specs.Expression.{Store}
+use Rattle.rules.specs.Answer.{Ended, ended, checkedWords, compiledWords, sourceRunWords, codeRunWords, textWords}
+use Rattle.table.specs.Checking.{checking}
+use Rattle.compiler.specs.Compiling.{compiling}
+use Rattle.run.specs.SourceRun.{sourceRun}
+use Rattle.run.specs.CodeRun.{codeRun}
+use Rattle.text.specs.Reading.{reading, writing}
+
+-- the table check lends nothing to be altered
+unfoldable pub checkCall : List ℕ → List ℕ
+checkCall t = checkedWords (checking t)
+
+unfoldable pub compileCall : List ℕ → ℕ → List ℕ → Ended (List ℕ) ℕ
+compileCall t start room = ended (compiledWords (compiling t start room .answer)) (compiling t start room .after)
+
+unfoldable pub sourceCall : List ℕ → Store → ℕ → Ended (List ℕ) ℤ
+sourceCall t σ fuel = ended (sourceRunWords (sourceRun t σ fuel .answer)) (sourceRun t σ fuel .after)
+
+unfoldable pub codeCall : List ℕ → List ℕ → ℕ → Store → ℕ → Ended (List ℕ) ℤ
+codeCall t c start σ fuel = ended (codeRunWords (codeRun t c start σ fuel .answer)) (codeRun t c start σ fuel .after)
+
+-- "One frame a line: four words"
+unfoldable pub readCall : List ℕ → List ℕ → Ended (List ℕ) ℕ
+readCall b room = ended (textWords (reading 4 b room .answer)) (reading 4 b room .after)
+
+unfoldable pub writeCall : List ℕ → List ℕ → Ended (List ℕ) ℕ
+writeCall ws room = ended (textWords (writing 4 ws room .answer)) (writing 4 ws room .after)

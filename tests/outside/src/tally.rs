@@ -1,0 +1,167 @@
+//! How often each answer occurred, and how often two grounds for a refusal competed; and what ought to occur.
+
+use crate::case::{Call, Case};
+use crate::oracle::answer::{Answer, Refusal, DONE, FINISHED, OUT_OF_FUEL, REFUSED};
+use crate::rivals::{rivals, Where};
+use std::collections::BTreeMap;
+use std::fmt::{self, Display, Formatter};
+
+/// Call, verdict and number of an answer.
+type Kind = (Call, u32, u32);
+/// Where the rival stood, the number told, the rival's number.
+type Contest = (Where, u32, u32);
+
+#[derive(Default)]
+pub struct Tally {
+    answers: BTreeMap<Kind, usize>,
+    contests: BTreeMap<Contest, usize>,
+}
+
+impl Tally {
+    pub fn count(&mut self, case: &Case, answer: &Answer) {
+        let [verdict, number, place, ..] = *answer;
+        *self.answers.entry((case.call(), verdict, number)).or_default() += 1;
+        if verdict == REFUSED {
+            let told = Refusal { number, place: place as usize };
+            for (place, rival) in rivals(case, told) {
+                *self.contests.entry((place, number, rival)).or_default() += 1;
+            }
+        }
+    }
+
+    /// How many cases were counted.
+    pub fn cases(&self) -> usize {
+        self.answers.values().sum()
+    }
+
+    /// What ought to have occurred at least so often and did not, and what occurred and never should.
+    pub fn complaints(&self, least: usize) -> Vec<String> {
+        let mut complaints = Vec::new();
+        for kind in expected_answers() {
+            let times = self.answers.get(&kind).copied().unwrap_or(0);
+            if times < least {
+                complaints.push(format!("{} occurred {times} times, fewer than {least}", describe(&kind)));
+            }
+        }
+        for contest in expected_contests() {
+            let times = self.contests.get(&contest).copied().unwrap_or(0);
+            if times == 0 {
+                let (place, told, rival) = contest;
+                complaints.push(format!("refusal {told} never competed with {rival} ({})", place_name(place)));
+            }
+        }
+        let expected = expected_answers();
+        for kind in self.answers.keys().filter(|kind| !expected.contains(kind)) {
+            complaints.push(format!("{} is no answer of that call", describe(kind)));
+        }
+        complaints
+    }
+}
+
+/// "The table check gives 1 to 9; compiling 1 to 9, 11, 12; a source run 1 to 10; a code run 1 to 11 and 13; reading and
+/// writing text 14, 15."
+fn expected_answers() -> Vec<Kind> {
+    let mut expected = Vec::new();
+    for call in Call::ALL {
+        let (verdicts, numbers): (&[u32], Vec<u32>) = match call {
+            Call::Check => (&[DONE], (1..=9).collect()),
+            Call::Compile => (&[DONE], (1..=9).chain(11..=12).collect()),
+            Call::RunSource => (&[FINISHED, OUT_OF_FUEL], (1..=10).collect()),
+            Call::RunCode => (&[FINISHED, OUT_OF_FUEL], (1..=11).chain([13]).collect()),
+            Call::ReadText | Call::WriteText => (&[DONE], vec![14, 15]),
+        };
+        expected.extend(verdicts.iter().map(|&verdict| (call, verdict, 0)));
+        expected.extend(numbers.iter().map(|&number| (call, REFUSED, number)));
+    }
+    expected
+}
+
+fn expected_contests() -> Vec<Contest> {
+    let mut expected = Vec::new();
+    let mut pairs = |place, told: &[u32], rivals: &[u32]| {
+        for &told in told {
+            expected.extend(rivals.iter().map(|&rival| (place, told, rival)));
+        }
+    };
+    // At one node the lower number wins; 2 leaves nothing else to find there.
+    pairs(Where::SameNode, &[3], &[4, 5, 6]);
+    pairs(Where::SameNode, &[4], &[5, 6]);
+    pairs(Where::SameNode, &[5], &[6]);
+    // Of several nodes the lower node wins, also over a lower number.
+    pairs(Where::LaterNode, &[2, 3, 4, 5, 6], &[2, 3, 4, 5, 6]);
+    pairs(Where::Elsewhere, &[2, 3, 4, 5, 6], &[7, 8, 9]);
+    pairs(Where::Elsewhere, &[7], &[8, 9]);
+    pairs(Where::Elsewhere, &[8], &[9]);
+    pairs(Where::Elsewhere, &[1, 2, 3, 4, 5, 6, 7, 8, 9], &[10, 11, 13]);
+    pairs(Where::Elsewhere, &[10], &[11, 13]);
+    pairs(Where::Elsewhere, &[11], &[12, 13]);
+    pairs(Where::Elsewhere, &[14], &[15]);
+    expected
+}
+
+fn describe(&(call, verdict, number): &Kind) -> String {
+    match verdict {
+        DONE => format!("{}: done", call.name()),
+        FINISHED => format!("{}: finished", call.name()),
+        OUT_OF_FUEL => format!("{}: out of fuel", call.name()),
+        REFUSED => format!("{}: refused {number}", call.name()),
+        _ => format!("{}: verdict {verdict}", call.name()),
+    }
+}
+
+fn place_name(place: Where) -> &'static str {
+    match place {
+        Where::SameNode => "at one node",
+        Where::LaterNode => "at a later node",
+        Where::Elsewhere => "elsewhere",
+    }
+}
+
+impl Display for Tally {
+    fn fmt(&self, f: &mut Formatter) -> fmt::Result {
+        self.answer_table(f)?;
+        writeln!(f, "\nRefusals that competed (told over rival: times)")?;
+        for place in [Where::SameNode, Where::LaterNode, Where::Elsewhere] {
+            self.contest_lines(f, place)?;
+        }
+        Ok(())
+    }
+}
+
+impl Tally {
+    fn answer_table(&self, f: &mut Formatter) -> fmt::Result {
+        let columns: Vec<(u32, u32)> = [(DONE, 0), (FINISHED, 0), (OUT_OF_FUEL, 0)]
+            .into_iter()
+            .chain((1..=15).map(|number| (REFUSED, number)))
+            .collect();
+        write!(f, "{:<12}{:>7}{:>9}{:>7}", "", "done", "finished", "fuel")?;
+        (1..=15).try_for_each(|number| write!(f, "{number:>6}"))?;
+        writeln!(f)?;
+        for call in Call::ALL {
+            write!(f, "{:<12}", call.name())?;
+            for (i, &(verdict, number)) in columns.iter().enumerate() {
+                let width = [7, 9, 7].get(i).copied().unwrap_or(6);
+                match self.answers.get(&(call, verdict, number)) {
+                    Some(times) => write!(f, "{times:>width$}")?,
+                    None => write!(f, "{:>width$}", "-")?,
+                }
+            }
+            writeln!(f)?;
+        }
+        Ok(())
+    }
+
+    fn contest_lines(&self, f: &mut Formatter, wanted: Where) -> fmt::Result {
+        let entries: Vec<String> = self
+            .contests
+            .iter()
+            .filter(|((place, ..), _)| *place == wanted)
+            .map(|((_, told, rival), times)| format!("{told}/{rival}: {times}"))
+            .collect();
+        for (i, line) in entries.chunks(9).enumerate() {
+            let name = if i == 0 { place_name(wanted) } else { "" };
+            writeln!(f, "{name:<16}{}", line.join(", "))?;
+        }
+        Ok(())
+    }
+}
