@@ -1,22 +1,24 @@
 -- Code as words (01, "Code and its steps"): what the absence of refusal 13 says of every instruction, and what is fetched at a label of
 -- words whose labels rise: the one instruction that bears it, or nothing.
 use mathlib.Core.Path.{_≡_, refl, sym, ap, _∙_}
-use Prim.Native.Nat.{ℕ, zero, suc, _+_, _-_, _*_, _/_, _%_, _<_, _≤_}
+use Prim.Native.Nat.{ℕ, zero, suc, _-_, _*_, _%_, _<_, _≤_}
 use native.Mathlib.Nat.{eq-or-lt-of-le, le-of-suc-le-suc}
 use native.Mathlib.Omega.{arith}
-use mathlib.Core.Bool.{Bool, true, false, not, cond, _&&_}
-use mathlib.Core.List.{List, [], _∷_, _++_, List·Memᴰ, List·Memᴰ·head, List·Memᴰ·not-nil, List·Memᴰ·append-cases, List·Memᴰ·eq-of-singleton, Memᴰ·append-left, Memᴰ·append-right}
+use mathlib.Core.Bool.{Bool, true, false, cond, _&&_}
+use mathlib.Core.List.{List, [], _∷_, _++_, List·Memᴰ, List·Memᴰ·head, List·Memᴰ·not-nil}
+use mathlib.Core.List.{List·Memᴰ·append-cases, List·Memᴰ·eq-of-singleton, Memᴰ·append-left, Memᴰ·append-right}
 use mathlib.Core.Logic.{⊎-elim}
 use mathlib.Core.Option.{none, some}
 use lib.Dec.{eqb, ltb, leb}
 use lib.ListN.{length}
 use borrow.Author.Tests.{eq-eqb, ne-eqb, lt-ltb, le-leb, lt-leb, eqb-true, eqb-false, ltb-true, leb-true, not-false}
 use Rattle.rules.specs.Lists.{fetch, joined}
-use Rattle.rules.specs.Goto.{Instr, _≔_, goto, ifnot, _∈_, InDom, Wellformed}
+use Rattle.rules.specs.Goto.{Instr, _≔_, goto, ifnot, _∈_, Wellformed}
 use Rattle.rules.specs.Table.{field, nodes, rowAt, rank, Class, arithmetic, boolean, statement, no-class, isClass}
 use Rattle.rules.specs.Refusal.{refusal, fine, refuse, refuseLowest, _orElse_}
 use Rattle.rules.specs.CodeWords.{part, instructions, instrOf, codeOf, wholeCode, isNode, fieldsFit, rises, codeFault, codeRefusal}
-use Rattle.rules.proofs.ListLaws.{one-more, and-true, true-and, cond-fine, refuse-none, orElse-none, refuseLowest-none, none-refuseLowest, some-refuseLowest}
+use Rattle.rules.proofs.ListLaws.{one-more, and-true, true-and, cond-fine, refuse-none, orElse-none}
+use Rattle.rules.proofs.ListLaws.{refuseLowest-none, none-refuseLowest, some-refuseLowest}
 use Rattle.rules.proofs.TableLaws.{is-class, class-is, Ranges, is-arithmetic, is-boolean, is-statement, is-none, ranges}
 use Rattle.rules.proofs.GotoLaws.{fetches, outside}
 
@@ -188,10 +190,13 @@ module _ (t c : List ℕ) where
     unfolding codeRefusal refuse _orElse_
     counted = rw whole
 
-    pub refused-at : (k : ℕ) → k < instructions c → (codeFault t c k ≡ fine → ⊥) → ((j : ℕ) → j < k → codeFault t c j ≡ fine) → codeRefusal t c ≡ some (refusal 13 k)
+    pub refused-at : (k : ℕ) → k < instructions c → (codeFault t c k ≡ fine → ⊥) → ((j : ℕ) → j < k → codeFault t c j ≡ fine)
+        → codeRefusal t c ≡ some (refusal 13 k)
     unfolding codeFault
     refused-at k h fault before =
-        counted ∙ some-refuseLowest (codeFault t c) (instructions c) k h fault before ∙ ap (λ (n : ℕ). some (refusal n k)) (else-13 (obeys k) fault)
+        counted
+        ∙ some-refuseLowest (codeFault t c) (instructions c) k h fault before
+        ∙ ap (λ (n : ℕ). some (refusal n k)) (else-13 (obeys k) fault)
       where
         else-13 : (b : Bool) → (cond b fine 13 ≡ fine → ⊥) → cond b fine 13 ≡ 13
         else-13 true f = absurd (f refl)
@@ -264,7 +269,9 @@ module _ (c : List ℕ) where
 
   -- no instruction bears ℓ
   pub fetch-nothing : (ℓ : ℕ) → ((k : ℕ) → k < instructions c → part c k 0 ≡ ℓ → ⊥) → fetch (codeOf c) ℓ ≡ none
-  fetch-nothing ℓ free = outside (codeOf c) ℓ (λ d. let at = in-code ℓ (d .0) (d .1) in free (at .0) (at .1) (sym (ap (λ (li : ℕ × Instr). li .0) (at .2))))
+  fetch-nothing ℓ free =
+      outside (codeOf c) ℓ
+      (λ d. let at = in-code ℓ (d .0) (d .1) in free (at .0) (at .1) (sym (ap (λ (li : ℕ × Instr). li .0) (at .2))))
 
   module _ (rising : Rising c) where
     -- a label is borne once

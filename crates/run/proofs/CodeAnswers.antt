@@ -1,6 +1,6 @@
 -- What the contract of `run_code` says of any answer that meets it: there is one, with one store after it; a refusal alters nothing; and
 -- any other stands at the end of as many steps of Fig. 1 as it reports, at a finish exactly where no instruction bears the label.
-use mathlib.Core.Path.{_≡_, refl, sym, ap, _∙_}
+use mathlib.Core.Path.{_≡_, sym, ap, _∙_}
 use mathlib.Core.List.{List}
 use mathlib.Core.Option.{Option, none, some}
 use Prim.Native.Nat.{ℕ, _+_, _-_, _≤_}
@@ -104,7 +104,8 @@ module _ (t c : List ℕ) (start : ℕ) (σ : Store) (fuel : ℕ) where
       record { taken = rw (from .1) (steps .steps); spent = from .1; instruction = steps .goes-on }
 
   -- "A refusal alters nothing lent"
-  pub refused-answer : (r : Refusal) (τ : Store) → ended (CodeRun.Refused r) τ ≡ codeRun t c start σ fuel → (codeRunRefusal t c start σ ≡ some r) × (τ ≡ σ)
+  pub refused-answer : (r : Refusal) (τ : Store) → ended (CodeRun.Refused r) τ ≡ codeRun t c start σ fuel
+      → (codeRunRefusal t c start σ ≡ some r) × (τ ≡ σ)
   unfolding codeRun
   refused-answer r τ e = from-refusal σ fuel (codeRunRefusal t c start σ) (run M C fuel start σ) r e
 

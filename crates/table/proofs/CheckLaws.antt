@@ -1,8 +1,8 @@
 -- The answer from its parts: what each test of the check settles, in the order of the numbers.
-use mathlib.Core.Path.{_≡_, refl, sym, _∙_}
+use mathlib.Core.Path.{_≡_, ap, sym, _∙_}
 use mathlib.Core.Bool.{true, false}
 use mathlib.Core.List.{List}
-use mathlib.Core.Option.{Option, none, some}
+use mathlib.Core.Option.{none, some}
 use Prim.Native.Nat.{ℕ, _/_, _<_, _≤_, min}
 use native.Mathlib.Omega.{arith}
 use lib.ListN.{getD}
@@ -13,22 +13,13 @@ use Rattle.rules.specs.Table.{nodes, root, rowAt, statement, rank, isClass, chi
 use Rattle.rules.specs.Table.{wholeTable, nodeFault, onceFault, tableRefusal}
 use Rattle.rules.specs.declared.Refusal.{Refusal}
 use Rattle.rules.specs.declared.Checked.{Checked}
-use Rattle.rules.proofs.ListLaws.{some-refuseLowest, none-refuseLowest, refuseLowest-none}
+use Rattle.rules.proofs.ListLaws.{some-orElse, some-refuseLowest, none-refuseLowest, refuseLowest-none}
 use Rattle.rules.proofs.TableLaws.{fine-once}
-use Rattle.table.specs.Checking.{answer, checking, treeRefusal, Sound}
-use Rattle.table.specs.Marks.{rowCode, marksOf}
+use Rattle.table.specs.Checking.{answer, checking}
+use Rattle.table.specs.Steps.{rowCode, marksOf, treeRefusal, Sound}
+use Rattle.table.proofs.Answer.{answer-done, answer-refused}
 use Rattle.table.proofs.MarkLaws.{marks-say}
 use Rattle.table.proofs.WordLaws.{class-here}
-
-answer-done : (o : Option Refusal) → Checked.Done ≡ answer o → o ≡ none
-unfolding answer
-answer-done (some r) e = cc
-answer-done none e = refl
-
-answer-refused : (o rest : Option Refusal) (r : Refusal) → Checked.Refused r ≡ answer o → answer (o orElse rest) ≡ answer o
-unfolding answer _orElse_
-answer-refused (some q) rest r e = refl
-answer-refused none rest r e = cc
 
 module _ (t : List ℕ) where
   pub refused-1 : wholeTable t ≡ false → checking t ≡ answer (some (refusal 1 0))
@@ -41,7 +32,10 @@ module _ (t : List ℕ) where
 
   pub refused-2-to-6 : wholeTable t ≡ true → (r : Refusal) → Checked.Refused r ≡ answer (refuseLowest (nodeFault t) (nodes t))
       → checking t ≡ Checked.Refused r
-  refused-2-to-6 w r e = checking-whole w ∙ answer-refused (refuseLowest (nodeFault t) (nodes t)) (treeRefusal t) r e ∙ sym e
+  unfolding answer
+  refused-2-to-6 w r e =
+      let o = refuseLowest (nodeFault t) (nodes t) in
+      checking-whole w ∙ ap answer (some-orElse o (treeRefusal t) r (answer-refused o r e))
 
   pub sound-nodes : Checked.Done ≡ answer (refuseLowest (nodeFault t) (nodes t)) → Sound t
   sound-nodes e = refuseLowest-none (nodeFault t) (nodes t) (answer-done _ e)

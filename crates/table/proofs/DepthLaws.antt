@@ -11,8 +11,7 @@ use borrow.Author.Tests.{le-leb, lt-leb, leb-true, leb-false}
 use Rattle.rules.specs.Lists.{fetch}
 use Rattle.rules.specs.Table.{field, nodes, kindOf, rowOf, rowAt, Slot, unused, any, var, child, childIn, children, deepest, depthAt}
 use Rattle.rules.proofs.TableLaws.{Fills, NodeFits, node-fits, Below, children-below, depth-at, in-run}
-use Rattle.table.specs.Checking.{Sound}
-use Rattle.table.specs.Marks.{slotCode}
+use Rattle.table.specs.Steps.{slotCode, Sound}
 use Rattle.table.proofs.RowLaws.{rank-small}
 
 deepest-append : (f : ℕ → ℕ) (xs ys : List ℕ) → deepest f (xs ++ ys) ≡ max (deepest f xs) (deepest f ys)

@@ -1,7 +1,7 @@
--- Laws of what the check keeps, and that its contract settles the answer.
+-- What the answer of `check` tells, and the laws behind the proofs of its parts.
+pub mod Answer
 pub mod RowLaws
 pub mod MarkLaws
 pub mod WordLaws
 pub mod DepthLaws
 pub mod CheckLaws
-pub mod Unique

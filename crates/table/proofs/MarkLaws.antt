@@ -11,7 +11,7 @@ use lib.Dec.{eqb}
 use borrow.Author.Tests.{eqb-true, eqb-false}
 use Rattle.rules.specs.Lists.{joined}
 use Rattle.rules.specs.Table.{nodes, children, occurs}
-use Rattle.table.specs.Marks.{bump, bumps, marksOf}
+use Rattle.table.specs.Steps.{bump, bumps, marksOf}
 
 pub bumps-append : (m xs ys : List ℕ) → bumps m (xs ++ ys) ≡ bumps (bumps m xs) ys
 unfolding bumps

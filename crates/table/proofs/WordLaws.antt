@@ -9,7 +9,7 @@ use borrow.Author.Tests.{eqb-true, eqb-false, eq-eqb, ne-eqb, lt-ltb, le-ltb}
 use Rattle.rules.specs.Refusal.{fine}
 use Rattle.rules.specs.Table.{field, rowAt, rank, Slot, unused, any, var, child, wordFault, nodeFault, childIn, children}
 use Rattle.rules.proofs.TableLaws.{word-most}
-use Rattle.table.specs.Marks.{slotCode, rowCode, bumps, Placed, Walked}
+use Rattle.table.specs.Steps.{Greatest, slotCode, rowCode, bumps, Placed, Walked}
 use Rattle.table.proofs.MarkLaws.{bumps-append}
 use Rattle.table.proofs.RowLaws.{row-class, row-p, row-q, row-r, rank-small, slot-unused, slot-child}
 
@@ -53,10 +53,7 @@ module _ (t : List ℕ) (n w : ℕ) (s : Slot) (k : ℕ) (e : slotCode s ≡ k) 
     unfolding childIn
     child-named = rw (slot-child s k e h .is)
 
--- the words that are no children, with the greatest that their slot takes
-abbrev pub Greatest : ℕ → ℕ → Type 0
-Greatest k g = (k ≡ 4 → g ≡ 0) × (k ≡ 5 → g ≡ 4294967295) × (k ≡ 6 → g ≡ 31)
-
+-- the words that are no children
 module _ (t : List ℕ) (n w k g : ℕ) (h : 4 ≤ k) where
   pub none-named : (s : Slot) → slotCode s ≡ k → childIn s w ≡ []
   unfolding slotCode childIn

@@ -1,2 +1,3 @@
+-- What `check` answers, and what its private functions promise each other.
 pub mod Checking
-pub mod Marks
+pub mod Steps

@@ -6,14 +6,13 @@ use rules::Refusal;
 ghost use mathlib.Core.Path.{_≡_};
 ghost use mathlib.Core.Bool.{_&&_};
 ghost use mathlib.Core.Option.{some};
-ghost use Prim.Native.Nat.{ℕ, _%_, _<_, _≤_, min};
+ghost use Prim.Native.Nat.{_%_, _<_, _≤_, min};
 ghost use lib.Dec.{eqb, ltb, leb};
-ghost use lib.ListN.{getD};
-ghost use Rattle.rules.specs.Lists.{joined};
-ghost use Rattle.rules.specs.Refusal.{refusal, refuseLowest};
-ghost use Rattle.rules.specs.Table.{Slot, nodes, root, wordFault, nodeFault, childIn, children, deepest, depthAt};
-ghost use Rattle.table.specs.Checking.{answer, checking, treeRefusal, Sound};
-ghost use Rattle.table.specs.Marks.{slotCode, Rows, bump, bumps, marksOf, Within, Placed, Walked};
+ghost use Rattle.rules.specs.Refusal.{refusal};
+ghost use Rattle.rules.specs.Table.{nodes, nodeFault, depthAt};
+ghost use Rattle.table.specs.Checking.{answer, checking};
+ghost use Rattle.table.specs.Steps.{Rows, Greatest, bump, FirstNotOne, Within, PlacedBy, FaultBy, Walked};
+ghost use Rattle.table.specs.Steps.{Sound, Swept, UnderBy, treeRefusal, Marked};
 
 fn refused(number: u32, place: usize) -> Checked
     requires { ⌜ place < 1024 ⌝ }
@@ -39,7 +38,7 @@ fn mark(marks: &mut [u8; 1024], k: usize)
 
 // The greatest word that a slot takes which is no child.
 fn greatest(slot: u32) -> u32
-    ensures { λ r. ⌜ (slot ≡ 4 → r ≡ 0) × (slot ≡ 5 → r ≡ 4294967295) × (slot ≡ 6 → r ≡ 31) ⌝ }
+    ensures { λ r. ⌜ Greatest slot r ⌝ }
 {
     match slot {
         4 => 0,
@@ -50,8 +49,8 @@ fn greatest(slot: u32) -> u32
 
 // Whether w is a child as node n asks, of this class; then it is marked.
 fn child(t: &[u32], rows: &[u32; 37], n: usize, class: u32, w: u32, marks: &mut [u8; 1024]) -> bool
-    requires { ⌜ Within (now t) n × Rows (now rows) ⌝ }
-    ensures { λ r. ⌜ ((s : Slot) → slotCode s ≡ class → class < 4 → Placed (now (t .entry)) n s w (now (marks .entry)) r (now (marks .exit))) ⌝ }
+    requires { ⌜ Within (now t) n × Rows (now rows) × (class < 4) ⌝ }
+    ensures { λ r. ⌜ PlacedBy (now (t .entry)) n class w (now (marks .entry)) r (now (marks .exit)) ⌝ }
 {
     let k = w as usize;
     if n <= k {
@@ -64,10 +63,11 @@ fn child(t: &[u32], rows: &[u32; 37], n: usize, class: u32, w: u32, marks: &mut 
     true
 }
 
-// Whether the word w of node n is as this slot asks; then the child that it names is marked.
+// Whether the word w of node n is as this slot asks; then the child that it names is marked. Most words that are no children are 0,
+// which is right in every such slot.
 fn word(t: &[u32], rows: &[u32; 37], n: usize, slot: u32, w: u32, marks: &mut [u8; 1024]) -> bool
     requires { ⌜ Within (now t) n × Rows (now rows) ⌝ }
-    ensures { λ r. ⌜ ((s : Slot) → slotCode s ≡ slot → Placed (now (t .entry)) n s w (now (marks .entry)) r (now (marks .exit))) ⌝ }
+    ensures { λ r. ⌜ PlacedBy (now (t .entry)) n slot w (now (marks .entry)) r (now (marks .exit)) ⌝ }
 {
     if slot < 4 {
         return child(t, rows, n, slot, w, marks);
@@ -103,7 +103,7 @@ fn node(t: &[u32], rows: &[u32; 37], n: usize, marks: &mut [u8; 1024]) -> bool
 // 3, 4, 5 or 6 for the word w of node n in this slot, or 99.
 fn word_fault(t: &[u32], rows: &[u32; 37], n: usize, slot: u32, w: u32) -> u32
     requires { ⌜ Within (now t) n × Rows (now rows) ⌝ }
-    ensures { λ r. ⌜ ((s : Slot) → slotCode s ≡ slot → r ≡ wordFault (now (t .entry)) n s w) ⌝ }
+    ensures { λ r. ⌜ FaultBy (now (t .entry)) n slot w r ⌝ }
 {
     if slot < 4 {
         let k = w as usize;
@@ -146,8 +146,7 @@ fn node_fault(t: &[u32], rows: &[u32; 37], n: usize) -> u32
 // "Numbers 2 to 6 go node by node from 0": the first node with a fault. Where there is none, every child is marked.
 fn walk(t: &[u32], rows: &[u32; 37], marks: &mut [u8; 1024]) -> Checked
     requires { ⌜ (nodes (now t) ≤ 1024) × Rows (now rows) ⌝ }
-    ensures faults { λ r. ⌜ r ≡ answer (refuseLowest (nodeFault (now (t .entry))) (nodes (now (t .entry)))) ⌝ }
-    ensures marked { λ r. ⌜ (Sound (now (t .entry)) → now (marks .exit) ≡ bumps (now (marks .entry)) (joined (children (now (t .entry))) (nodes (now (t .entry))))) ⌝ }
+    ensures { λ r. ⌜ Swept (now (t .entry)) (now (marks .entry)) r (now (marks .exit)) ⌝ }
 {
     let count = t.len() / 4;
     let mut n = 0;
@@ -163,7 +162,7 @@ fn walk(t: &[u32], rows: &[u32; 37], marks: &mut [u8; 1024]) -> Checked
 // The first of the marks below root that is not 1, or root.
 fn first_not_one(marks: &[u8; 1024], root: usize) -> usize
     requires { ⌜ root < 1024 ⌝ }
-    ensures { λ r. ⌜ (r ≤ root) × ((k : ℕ) → k < r → getD (now (marks .entry)) k 0 ≡ 1) × (r < root → getD (now (marks .entry)) r 0 ≡ 1 → ⊥) ⌝ }
+    ensures { λ r. ⌜ FirstNotOne (now (marks .entry)) root r ⌝ }
 {
     let mut k = 0;
     while k < root {
@@ -179,7 +178,7 @@ fn first_not_one(marks: &[u8; 1024], root: usize) -> usize
 // or a variable has depth 1.
 fn under(t: &[u32], rows: &[u32; 37], slot: u32, w: u32, budget: usize) -> bool
     requires { ⌜ Sound (now t) × Rows (now rows) × (slot < 4 → w < nodes (now t)) ⌝ }
-    ensures { λ r. ⌜ ((s : Slot) → slotCode s ≡ slot → r ≡ leb (deepest (depthAt (now (t .entry))) (childIn s w)) budget) ⌝ }
+    ensures { λ r. ⌜ UnderBy (now (t .entry)) slot w budget r ⌝ }
 {
     if 4 <= slot {
         return true;
@@ -228,7 +227,7 @@ fn shallow(t: &[u32], rows: &[u32; 37], top: usize, budget: usize) -> bool
 
 // Refusals 7 to 9, where no node is refused and every child is marked.
 fn check_tree(t: &[u32], rows: &[u32; 37], marks: &[u8; 1024]) -> Checked
-    requires { ⌜ Within (now t) (root (now t)) × Sound (now t) × (now marks ≡ marksOf (now t)) × Rows (now rows) ⌝ }
+    requires { ⌜ Marked (now t) (now rows) (now marks) ⌝ }
     ensures { λ r. ⌜ r ≡ answer (treeRefusal (now (t .entry))) ⌝ }
 {
     let root = t.len() / 4 - 1;

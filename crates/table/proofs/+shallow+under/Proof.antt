@@ -12,8 +12,7 @@ use borrow.Fn.Kinds.{In}
 use borrow.Fn.PlainCycle.{Measures, is, falls, and}
 use Rattle.rules.specs.Table.{nodes, field, rowAt, depthAt}
 use Rattle.rules.proofs.TableLaws.{NodeFits}
-use Rattle.table.specs.Checking.{Sound}
-use Rattle.table.specs.Marks.{slotCode, Rows}
+use Rattle.table.specs.Steps.{slotCode, Rows, Sound}
 use Rattle.table.proofs.WordLaws.{slot-p, slot-q, slot-r}
 use Rattle.table.proofs.DepthLaws.{wordDepth, no-depth, child-depth, child-lower, fits, depth-words, depth-most, leaf-depth}
 use Rattle.table.proofs.DepthLaws.{deep-second, deep-third, no-first, first-next}
@@ -192,9 +191,9 @@ module _ (m : ℕ) where
   shallow-returns-5 c =
       let w = c .before .before .before .before .before .before .before in
       let here = w .before .before .before .before .before in
-      sym
-      (here .loop .inv .2
-      ∙ no-first (tab w) (sound w) (num w) (here .loop .left) (here .loop .inv .0) (search needs) (second (c .before)) (third (c .before)) _ (p-at w) (c .if5 .taken))
+      let q = second (c .before) in
+      let r = third (c .before) in
+      sym (here .loop .inv .2 ∙ no-first (tab w) (sound w) (num w) (here .loop .left) (here .loop .inv .0) (search needs) q r _ (p-at w) (c .if5 .taken))
 
   shallow-add-n : shallow-lts.Need-add-n (shallow-calls m) (shallow-at m) shallow.Post Inv μ
   shallow-add-n c = search needs
@@ -219,12 +218,10 @@ module _ (m : ℕ) where
       let past = c .before .before in
       let w = past .before .before .before .before .before .before in
       let here = w .before .before .before .before .before in
-      let l = child-lower (tab w) (num w) (rowAt (tab w) (num w) .p) _ _ (p-at w) (node w .p) (c .before .if5 .left) in (
-        omega arith,
-        omega arith,
-        here .loop .inv .2
-            ∙ first-next (tab w) (sound w) (num w) (here .loop .left) (here .loop .inv .0) (search needs) (second past) (third past) _ (p-at w) (c .before .if5 .left),
-      )
+      let child = c .before .if5 .left in
+      let l = child-lower (tab w) (num w) (rowAt (tab w) (num w) .p) _ _ (p-at w) (node w .p) child in
+      let next = first-next (tab w) (sound w) (num w) (here .loop .left) (here .loop .inv .0) (search needs) (second past) (third past) _ (p-at w) child in
+      (omega arith, omega arith, here .loop .inv .2 ∙ next)
 
   shallow-returns-6 : shallow-lts.Need-returns-6 (shallow-calls m) (shallow-at m) shallow.Post Inv μ
   shallow-returns-6 c =

@@ -5,8 +5,7 @@ use Prim.Native.Nat.{_-_}
 use native.Mathlib.Omega.{arith}
 use Rattle.rules.specs.Table.{wholeTable}
 use Rattle.rules.proofs.TableLaws.{whole-table}
-use Rattle.table.specs.Checking.{Sound}
-use Rattle.table.specs.Marks.{marksOf}
+use Rattle.table.specs.Steps.{marksOf, Sound}
 use Rattle.table.proofs.RowLaws.{rowsOfCode, rows-right}
 use Rattle.table.proofs.CheckLaws.{refused-1, refused-2-to-6, sound-nodes, checking-sound}
 use borrow.Author.Needs.{needs}
@@ -19,7 +18,7 @@ unfolding wholeTable
 is-whole c = sym (c .before .whole .ensures) ∙ not-false _ (c .if1 .left)
 
 is-sound : (c : tie.After-enum-told) → Sound (c .before .before .before .before .before .before .before .before .args .table .now)
-is-sound c = sound-nodes _ (sym (c .enum-told .given .1) ∙ c .before .before .walk .ensures .0)
+is-sound c = sound-nodes _ (sym (c .enum-told .given .1) ∙ c .before .before .walk .ensures .answered)
 
 whole-requires : tie.Need-whole-requires
 whole-requires c κs = search needs
@@ -45,7 +44,12 @@ unfolding marksOf rowsOfCode
 check-tree-requires c κs =
     let told = c .before .before in
     let w = whole-table _ (is-whole (told .before .before .before .before .before)) in
-    (record { inside = omega arith; few = w .2 }, is-sound told, told .before .before .walk .ensures .1 (is-sound told), rows-right)
+    record {
+      within = record { inside = omega arith; few = w .2 };
+      sound = is-sound told;
+      marks = told .before .before .walk .ensures .marked (is-sound told);
+      rows-right = rows-right;
+    }
 
 enum-told-2 : tie.Need-enum-told-2
 enum-told-2 c = search needs
@@ -59,7 +63,7 @@ returns-3 : tie.Need-returns-3
 returns-3 c =
     let walked = c .before .before in
     let refused = c .enum-told2 .given .1 in
-    refused ∙ sym (refused-2-to-6 _ (is-whole (walked .before .before .before)) _ (sym refused ∙ walked .walk .ensures .0))
+    refused ∙ sym (refused-2-to-6 _ (is-whole (walked .before .before .before)) _ (sym refused ∙ walked .walk .ensures .answered))
 
 pub check-spec : {M : Type 1} → statement M
 check-spec =

@@ -36,8 +36,8 @@ returns-2 c =
     let lower = c .before .if2 .taken in
     c .refused2 .ensures
     ∙ sym
-    (refused-8 (start .args .t .now) (read .row-at .result) (read .row-at .ensures) (test .if1 .left) _ (start .pre .2) (search needs)
-    _ lower (first .1) (first .2 lower))
+    (refused-8 (start .args .t .now) (read .row-at .result) (read .row-at .ensures) (test .if1 .left) _ (start .pre .marks) (search needs)
+    _ lower (first .ones) (first .not-one lower))
 
 shallow-requires : tie.Need-shallow-requires
 shallow-requires c κs = search needs
@@ -53,8 +53,8 @@ returns-3 c =
     let start = read .before .before .before in
     let first = read .before .first-not-one .ensures in
     sym
-    (none-refused (start .args .t .now) (read .row-at .result) (read .row-at .ensures) (test .if1 .left) _ (start .pre .2) (search needs)
-    (λ k h. first .1 k (omega arith)) (leb-true _ _ (sym (deep .before .shallow .ensures) ∙ deep .if3 .taken)))
+    (none-refused (start .args .t .now) (read .row-at .result) (read .row-at .ensures) (test .if1 .left) _ (start .pre .marks) (search needs)
+    (λ k h. first .ones k (omega arith)) (leb-true _ _ (sym (deep .before .shallow .ensures) ∙ deep .if3 .taken)))
 
 returns-4 : tie.Need-returns-4
 returns-4 c =
@@ -65,8 +65,8 @@ returns-4 c =
     let first = read .before .first-not-one .ensures in
     c .refused3 .ensures
     ∙ sym
-    (refused-9 (start .args .t .now) (read .row-at .result) (read .row-at .ensures) (test .if1 .left) _ (start .pre .2) (search needs)
-    (λ k h. first .1 k (omega arith)) (leb-false _ _ (sym (deep .before .shallow .ensures) ∙ deep .if3 .left)))
+    (refused-9 (start .args .t .now) (read .row-at .result) (read .row-at .ensures) (test .if1 .left) _ (start .pre .marks) (search needs)
+    (λ k h. first .ones k (omega arith)) (leb-false _ _ (sym (deep .before .shallow .ensures) ∙ deep .if3 .left)))
 
 pub check-tree-spec : {M : Type 1} → statement M
 check-tree-spec =

@@ -1,25 +1,26 @@
 -- `table::child` meets its contract.
 use mathlib.Core.Path.{_∙_, sym, ap}
 use native.Mathlib.Omega.{arith}
-use Rattle.table.specs.Marks.{bumps}
+use Rattle.table.specs.Steps.{bumps}
 use Rattle.table.proofs.WordLaws.{fault-5, fault-6, child-fine, child-named, placed, not-placed}
 use borrow.Author.Needs.{needs}
 use Rattle.table.proofs.child.Statement.{statement}
 use Rattle.table.proofs.child.Tie as tie
 
 returns : tie.Need-returns
-returns c = λ s e h.
-    let l = fault-5 (c .before .before .args .t .now) (c .before .before .args .n) (c .before .before .args .w) s _ e h (c .if1 .taken) in
+returns c = λ s e.
+    let start = c .before .before in
+    let five = fault-5 (start .args .t .now) (start .args .n) (start .args .w) s _ e (start .pre .2) (c .if1 .taken) in
     not-placed _ _ _ _ _ _ (omega arith)
 
 row-at-requires : tie.Need-row-at-requires
 row-at-requires c κs = search needs
 
 returns-2 : tie.Need-returns-2
-returns-2 c = λ s e h.
+returns-2 c = λ s e.
     let read = c .before in
     let start = read .before .before .before in
-    let l = fault-6 (start .args .t .now) (start .args .n) (start .args .w) s _ e h _ (read .row-at .ensures) (read .before .if1 .left) (c .if2 .taken) in
+    let six = fault-6 (start .args .t .now) (start .args .n) _ s _ e (start .pre .2) _ (read .row-at .ensures) (read .before .if1 .left) (c .if2 .taken) in
     not-placed _ _ _ _ _ _ (omega arith)
 
 mark-requires : tie.Need-mark-requires
@@ -27,12 +28,14 @@ mark-requires c κs = search needs
 
 returns-3 : tie.Need-returns-3
 unfolding bumps
-returns-3 c = λ s e h.
+returns-3 c = λ s e.
     let read = c .before .before .before in
     let start = read .before .before .before in
-    placed _ _ _ _ _ _
-    (child-fine (start .args .t .now) (start .args .n) (start .args .w) s _ e h _ (read .row-at .ensures) (read .before .if1 .left) (c .before .before .if2 .left))
-    (c .mark .ensures ∙ ap (bumps (start .args .marks .now)) (sym (child-named (start .args .t .now) (start .args .n) (start .args .w) s _ e h)))
+    let t = start .args .t .now in
+    let n = start .args .n in
+    let w = start .args .w in
+    let right = child-fine t n w s _ e (start .pre .2) _ (read .row-at .ensures) (read .before .if1 .left) (c .before .before .if2 .left) in
+    placed _ _ _ _ _ _ right (c .mark .ensures ∙ ap (bumps (start .args .marks .now)) (sym (child-named t n w s _ e (start .pre .2))))
 
 pub child-spec : {M : Type 1} → statement M
 child-spec = tie.close (tie.spec returns row-at-requires returns-2 mark-requires returns-3)

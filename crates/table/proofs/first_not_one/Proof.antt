@@ -2,6 +2,7 @@
 use mathlib.Core.Path.{_≡_}
 use Prim.Native.Nat.{ℕ, _≤_, _<_, _-_}
 use lib.ListN.{getD}
+use native.Mathlib.Omega.{arith}
 use borrow.Author.Needs.{needs}
 use borrow.Author.Count.{below-more}
 use Rattle.table.proofs.first_not_one.Statement.{statement}
@@ -20,7 +21,7 @@ element-copy-out-if1 : tie.Need-element-copy-out-if1 Inv-loop μ-loop
 element-copy-out-if1 c = search needs
 
 returns : tie.Need-returns Inv-loop μ-loop
-returns c = search needs
+returns c = record { most = search needs; ones = c .before .before .before .loop .inv .1; not-one = λ _. c .if1 .taken }
 
 add-k : tie.Need-add-k Inv-loop μ-loop
 add-k c = search needs
@@ -32,7 +33,7 @@ loop-again : tie.Need-loop-again Inv-loop μ-loop
 loop-again c = (search needs, below-more _ _ (c .before .before .before .loop .inv .1) (c .if1 .left))
 
 returns-2 : tie.Need-returns-2 Inv-loop μ-loop
-returns-2 c = search needs
+returns-2 c = record { most = search needs; ones = c .before .loop .inv .1; not-one = λ l. absurd (omega arith) }
 
 pub first-not-one-spec : {M : Type 1} → statement M
 first-not-one-spec =

@@ -11,7 +11,7 @@ use Rattle.rules.specs.Refusal.{fine}
 use Rattle.rules.specs.Table.{nodes, nodeFault, children}
 use Rattle.rules.proofs.ListLaws.{some-refuseLowest, none-refuseLowest}
 use Rattle.table.specs.Checking.{answer}
-use Rattle.table.specs.Marks.{bumps}
+use Rattle.table.specs.Steps.{bumps}
 use Rattle.table.proofs.MarkLaws.{marks-next}
 use Rattle.table.proofs.walk.Statement.{statement}
 use Rattle.table.proofs.walk.Tie as tie
@@ -47,7 +47,7 @@ returns c =
     let wrong = sym (seen .node .ensures .right) ∙ not-true _ (told .before .if1 .taken) in
     let faulty : nodeFault t n ≡ fine → ⊥ = eqb-false (nodeFault t n) fine wrong in
     let found = some-refuseLowest (nodeFault t) (nodes t) n inside faulty (here .loop .inv .1) in
-    (c .refused .ensures ∙ rw (told .node-fault .ensures, found), λ s. absurd (faulty (s n inside)))
+    record { answered = c .refused .ensures ∙ rw (told .node-fault .ensures, found); marked = λ s. absurd (faulty (s n inside)) }
 
 add-n : tie.Need-add-n Inv-loop μ-loop
 add-n c = search needs
@@ -69,7 +69,7 @@ returns-2 c =
     let t : List ℕ = c .before .before .before .args .t .now in
     let all : c .before .loop .n ≡ nodes t = search needs in
     let inv = c .before .loop .inv in
-    (rw (none-refuseLowest (nodeFault t) (nodes t) (rw all at (inv .1))), λ _. rw all at (inv .2))
+    record { answered = rw (none-refuseLowest (nodeFault t) (nodes t) (rw all at (inv .1))); marked = λ _. rw all at (inv .2) }
 
 pub walk-spec : {M : Type 1} → statement M
 walk-spec =

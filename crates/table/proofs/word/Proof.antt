@@ -1,7 +1,7 @@
 -- `table::word` meets its contract.
 use mathlib.Core.Path.{sym, ap}
 use native.Mathlib.Omega.{arith}
-use Rattle.table.specs.Marks.{bumps}
+use Rattle.table.specs.Steps.{bumps}
 use Rattle.table.proofs.WordLaws.{none-named, zero-fine, word-fine, word-faulty, placed, not-placed}
 use borrow.Author.Needs.{needs}
 use Rattle.table.proofs.word.Statement.{statement}
@@ -11,7 +11,7 @@ child-requires : tie.Need-child-requires
 child-requires c κs = search needs
 
 returns : tie.Need-returns
-returns c = λ s e. c .child .ensures s e (c .before .before .if1 .taken)
+returns c = c .child .ensures
 
 returns-2 : tie.Need-returns-2
 unfolding bumps

@@ -15,9 +15,6 @@ use Rattle.rules.proofs.FetchLaws.{refused-count, refused-at, not-refused}
 use Rattle.table.specs.Checking.{answer}
 use Rattle.run.proofs.code.check_code.Statement.{statement}
 use Rattle.run.proofs.code.check_code.Tie as tie
-use Rattle.run.proofs.code.check_code.Reads as reads
-use Rattle.run.proofs.code.check_code.Lts as lts
-use Rattle.run.proofs.code.obeys.Reads as obeys-reads
 
 abbrev Inv-loop : tie.InvT-loop
 Inv-loop t c words whole count k₀ k = (k ≤ instructions c) × ((j : ℕ) → j < k → codeFault t c j ≡ fine)

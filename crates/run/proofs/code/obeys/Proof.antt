@@ -1,6 +1,6 @@
 -- `run::code::obeys` meets its contract: what it tests is what `codeFault` asks.
 use mathlib.Core.Bool.{Bool, true, false, cond}
-use mathlib.Core.Path.{_≡_, refl, sym, ap, _∙_}
+use mathlib.Core.Path.{_≡_, refl, _∙_}
 use lib.Dec.{eqb}
 use borrow.Author.Needs.{needs}
 use Rattle.rules.specs.Refusal.{fine}
@@ -33,9 +33,10 @@ tested false = refl
 returns : tie.Need-returns
 unfolding codeFault
 returns c =
-    let w = c .before .before .before in
+    let fit = c .before .before in let w = fit .before in
     tested _
-    ∙ rw (c .rises .ensures, c .before .word4 .ensures, c .before .before .fields-fit .ensures, w .word3 .ensures, w .before .word2 .ensures, w .before .before .word .ensures)
+    ∙ rw (c .rises .ensures, c .before .word4 .ensures, fit .fields-fit .ensures)
+    (rw (w .word3 .ensures, w .before .word2 .ensures, w .before .before .word .ensures))
 
 pub obeys-spec : {M : Type 1} → statement M
 obeys-spec =
