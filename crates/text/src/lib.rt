@@ -1,5 +1,5 @@
 // Text: hexadecimal lines read into words, and words written as hexadecimal lines.
-// The parts are over the number w of words in a frame; the calls are at four.
+// The parts are over the number w of words in a frame; the calls are at four, and a refusal's line at two.
 ghost use mathlib.Core.Path.{_≡_};
 ghost use Rattle.rules.specs.Refusal.{refusal};
 ghost use Rattle.rules.specs.Answer.{ended};
@@ -22,6 +22,13 @@ pub fn write_text(words: &[u32], room: &mut [u8]) -> Text
     ensures { λ r. ⌜ ended r (now (room .exit)) ≡ writing 4 (now (words .entry)) (now (room .entry)) ⌝ }
 {
     writing::write_frames(words, 4, room)
+}
+
+// Writes words as text of two words a line, as a listing tells a refusal.
+pub fn write_pairs(words: &[u32], room: &mut [u8]) -> Text
+    ensures { λ r. ⌜ ended r (now (room .exit)) ≡ writing 2 (now (words .entry)) (now (room .entry)) ⌝ }
+{
+    writing::write_frames(words, 2, room)
 }
 
 fn refused(number: u32, place: u32) -> Text

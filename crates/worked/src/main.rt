@@ -2,6 +2,7 @@
 mod checking;
 mod code;
 mod compiling;
+mod listings;
 mod show;
 mod source;
 mod texts;
@@ -12,4 +13,5 @@ fn main() {
     source::cases();
     code::cases();
     texts::cases();
+    listings::cases();
 }

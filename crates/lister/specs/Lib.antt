@@ -1,0 +1,2 @@
+-- What the listing of a text is.
+pub mod Listing
