@@ -6,7 +6,9 @@ use native.Mathlib.Omega.{arith}
 use mathlib.Core.Bool.{Bool, true, false}
 use lib.Dec.{ltb}
 use borrow.Author.Tests.{ltb-true, ltb-false}
-use mathlib.Core.List.{List, [], _∷_, _++_, append-assoc, List·Memᴰ·head, List·Memᴰ·tail, List·Memᴰ·not-nil, List·Memᴰ·cases-cons, List·Memᴰ·append-cases, List·Memᴰ·eq-of-singleton, Memᴰ·append-left, Memᴰ·append-right}
+use mathlib.Core.List.{List, [], _∷_, _++_, append-assoc, List·Memᴰ·head, List·Memᴰ·tail, List·Memᴰ·not-nil}
+use mathlib.Core.List.{List·Memᴰ·cases-cons, List·Memᴰ·append-cases, List·Memᴰ·eq-of-singleton, Memᴰ·append-left}
+use mathlib.Core.List.{Memᴰ·append-right}
 use mathlib.Core.Logic.{_⊎_, inl, inr, ⊎-elim, _↔_}
 use lib.ListN.{length, length-append}
 use Rattle.rules.specs.While.{Stm, skip, assign, seq, if, while}
@@ -106,12 +108,15 @@ pub compile-from : (s : Stm) (ℓ : ℕ) → From ℓ (compile s ℓ)
 unfolding From compile
 compile-from skip ℓ = tt
 compile-from (assign x a) ℓ = (refl, tt)
-compile-from (seq s₀ s₁) ℓ = from-append ℓ (compile s₀ ℓ) _ (compile-from s₀ ℓ) (from-label (compile s₁ (ℓ + size s₀)) (ap (λ (i : ℕ). ℓ + i) (sym (length-compile s₀ ℓ))) (compile-from s₁ (ℓ + size s₀)))
-compile-from (if b sₜ s) ℓ = (
-  refl,
-  from-append (ℓ + 1) (compile sₜ (ℓ + 1)) _ (compile-from sₜ (ℓ + 1))
-      (ap (λ (i : ℕ). ℓ + 1 + i) (sym (length-compile sₜ (ℓ + 1))), from-label {ℓ = ℓ + 1 + size sₜ + 1} {m = ℓ + 1 + length (compile sₜ (ℓ + 1)) + 1} (compile s (ℓ + 1 + size sₜ + 1)) (omega (arith, length-compile sₜ (ℓ + 1))) (compile-from s (ℓ + 1 + size sₜ + 1))),
-)
+compile-from (seq s₀ s₁) ℓ =
+    from-append ℓ (compile s₀ ℓ) _ (compile-from s₀ ℓ)
+    (from-label (compile s₁ (ℓ + size s₀)) (ap (λ (i : ℕ). ℓ + i) (sym (length-compile s₀ ℓ))) (compile-from s₁ (ℓ + size s₀)))
+compile-from (if b sₜ s) ℓ =
+    let m : ℕ = ℓ + 1 + size sₜ in
+    let after : ℕ = ℓ + 1 + length (compile sₜ (ℓ + 1)) in
+    let at-m : m ≡ after = ap (λ (i : ℕ). ℓ + 1 + i) (sym (length-compile sₜ (ℓ + 1))) in
+    let otherwise : From (after + 1) (compile s (m + 1)) = from-label (compile s (m + 1)) (ap (λ (i : ℕ). i + 1) at-m) (compile-from s (m + 1)) in
+    (refl, from-append (ℓ + 1) (compile sₜ (ℓ + 1)) _ (compile-from sₜ (ℓ + 1)) (at-m, otherwise))
 compile-from (while b sₜ) ℓ =
     (refl, from-append (ℓ + 1) (compile sₜ (ℓ + 1)) _ (compile-from sₜ (ℓ + 1)) (ap (λ (i : ℕ). ℓ + 1 + i) (sym (length-compile sₜ (ℓ + 1))), tt))
 

@@ -13,7 +13,9 @@ use borrow.Author.Tests.{eq-eqb, ne-eqb, eqb-true, eqb-false}
 use Rattle.rules.specs.Lists.{fetch}
 use Rattle.rules.specs.Expression.{Store}
 use Rattle.rules.specs.While.{Meaning, assigned}
-use Rattle.rules.specs.Goto.{Instr, _≔_, goto, ifnot, Code, _∈_, InDom, Wellformed, Step, assign-ss, goto-ss, ifngoto-tt-ss, ifngoto-ff-ss, Steps, none-yet, one-more, Stuck, Halted, finished, out, nextLabel, nextStore, run}
+use Rattle.rules.specs.Goto.{Instr, _≔_, goto, ifnot, Code, _∈_, InDom, Wellformed, Step, assign-ss, goto-ss}
+use Rattle.rules.specs.Goto.{ifngoto-tt-ss, ifngoto-ff-ss, Steps, none-yet, one-more, Stuck, Halted, finished}
+use Rattle.rules.specs.Goto.{out, nextLabel, nextStore, run}
 
 -- ---- what is fetched, and what is in the code
 
@@ -45,7 +47,8 @@ pub in-fetched : (c : Code) (ℓ : ℕ) (i : Instr) → (ℓ, i) ∈ c → (j : 
 in-fetched [] ℓ i h = absurd (List·Memᴰ·not-nil h)
 in-fetched (lj ∷ c) ℓ i h = go (λ k. in-fetched c ℓ i k) (List·Memᴰ·cases-cons h) (eqb (lj .0) ℓ) refl
   where
-    go : ((ℓ, i) ∈ c → (j : Instr) × (fetch c ℓ ≡ some j)) → (_≡_ {A = ℕ × Instr} (ℓ, i) lj) ⊎ ((ℓ, i) ∈ c) → (b : Bool) → eqb (lj .0) ℓ ≡ b → (j : Instr) × (fetch (lj ∷ c) ℓ ≡ some j)
+    go : ((ℓ, i) ∈ c → (j : Instr) × (fetch c ℓ ≡ some j)) → (_≡_ {A = ℕ × Instr} (ℓ, i) lj) ⊎ ((ℓ, i) ∈ c) → (b : Bool)
+        → eqb (lj .0) ℓ ≡ b → (j : Instr) × (fetch (lj ∷ c) ℓ ≡ some j)
     go rec d true q = (lj .1, ap (fetch (lj ∷ c)) (sym (eqb-true (lj .0) ℓ q)) ∙ fetch-here (lj .0) (lj .1) c)
     go rec (inl e) false q = absurd (eqb-false (lj .0) ℓ q (sym (ap (λ (x : ℕ × Instr). x .0) e)))
     go rec (inr k) false q = (rec k .0, fetch-past (lj .0) (lj .1) c ℓ (eqb-false (lj .0) ℓ q) ∙ rec k .1)
@@ -89,7 +92,8 @@ module _ (M : Meaning) where
   taken (ifngoto-tt-ss {b = b} {m = m} h t) = takes (ifnot b m) h (rw (t, nextLabel)) refl
   taken (ifngoto-ff-ss {b = b} {m = m} h t) = takes (ifnot b m) h (rw (t, nextLabel)) refl
 
-  branches : (c : Code) (ℓ b m : ℕ) (σ : Store) → (ℓ, ifnot b m) ∈ c → (v : Bool) → M .holds b σ ≡ v → Step M c ℓ σ (elim v [ true ↦ ℓ + 1 | false ↦ m ]) σ
+  branches : (c : Code) (ℓ b m : ℕ) (σ : Store) → (ℓ, ifnot b m) ∈ c → (v : Bool) → M .holds b σ ≡ v
+      → Step M c ℓ σ (elim v [ true ↦ ℓ + 1 | false ↦ m ]) σ
   branches c ℓ b m σ h true t = ifngoto-tt-ss h t
   branches c ℓ b m σ h false t = ifngoto-ff-ss h t
 
@@ -103,7 +107,8 @@ module _ (M : Meaning) where
   same-taken wf {ℓ = ℓ} (takes i h p q) (takes j k r s) = let same : i ≡ j = wf ℓ i j h k in (cc, cc)
 
   -- Lemma 1 (determinacy)
-  pub step-deterministic : {c : Code} → Wellformed c → {ℓ ℓ′ ℓ″ : ℕ} {σ σ′ σ″ : Store} → Step M c ℓ σ ℓ′ σ′ → Step M c ℓ σ ℓ″ σ″ → (ℓ′ ≡ ℓ″) × (σ′ ≡ σ″)
+  pub step-deterministic : {c : Code} → Wellformed c → {ℓ ℓ′ ℓ″ : ℕ} {σ σ′ σ″ : Store} → Step M c ℓ σ ℓ′ σ′ → Step M c ℓ σ ℓ″ σ″
+      → (ℓ′ ≡ ℓ″) × (σ′ ≡ σ″)
   step-deterministic wf a b = same-taken wf (taken a) (taken b)
 
   pub bears : {c : Code} {ℓ ℓ′ : ℕ} {σ σ′ : Store} → Takes c ℓ σ ℓ′ σ′ → InDom c ℓ
@@ -116,16 +121,19 @@ module _ (M : Meaning) where
   step-by : {c : Code} {ℓ ℓ′ : ℕ} {σ σ′ : Store} (i : Instr) → (ℓ, i) ∈ c → ℓ′ ≡ nextLabel M i ℓ σ → σ′ ≡ nextStore M i σ → Step M c ℓ σ ℓ′ σ′
   step-by {σ = σ} i h p q = rw (p, q) (can-step σ i h)
 
-  pub extend : {c₀ c₁ : Code} → ((ℓ : ℕ) (i : Instr) → (ℓ, i) ∈ c₀ → (ℓ, i) ∈ c₁) → {ℓ ℓ′ : ℕ} {σ σ′ : Store} → Takes c₀ ℓ σ ℓ′ σ′ → Step M c₁ ℓ σ ℓ′ σ′
+  pub extend : {c₀ c₁ : Code} → ((ℓ : ℕ) (i : Instr) → (ℓ, i) ∈ c₀ → (ℓ, i) ∈ c₁) → {ℓ ℓ′ : ℕ} {σ σ′ : Store} → Takes c₀ ℓ σ ℓ′ σ′
+      → Step M c₁ ℓ σ ℓ′ σ′
   extend more {ℓ = ℓ} (takes i h p q) = step-by i (more ℓ i h) p q
 
-  restrict : {c₀ c₁ : Code} → ((ℓ : ℕ) (i : Instr) → (ℓ, i) ∈ c₀ → (ℓ, i) ∈ c₁) → Wellformed c₁ → {ℓ ℓ′ : ℕ} {σ σ′ : Store} → InDom c₀ ℓ → Takes c₁ ℓ σ ℓ′ σ′ → Step M c₀ ℓ σ ℓ′ σ′
+  restrict : {c₀ c₁ : Code} → ((ℓ : ℕ) (i : Instr) → (ℓ, i) ∈ c₀ → (ℓ, i) ∈ c₁) → Wellformed c₁ → {ℓ ℓ′ : ℕ} {σ σ′ : Store}
+      → InDom c₀ ℓ → Takes c₁ ℓ σ ℓ′ σ′ → Step M c₀ ℓ σ ℓ′ σ′
   restrict more wf {ℓ = ℓ} d (takes i h p q) =
       let same : d .0 ≡ i = wf ℓ (d .0) i (more ℓ (d .0) (d .1)) h in
       step-by (d .0) (d .1) (rw same p) (rw same q)
 
   -- Lemma 3 (extension of the domain)
-  pub extension : {c₀ c₁ : Code} → ((ℓ : ℕ) (i : Instr) → (ℓ, i) ∈ c₀ → (ℓ, i) ∈ c₁) → Wellformed c₁ → {ℓ : ℕ} → InDom c₀ ℓ → {ℓ′ : ℕ} {σ σ′ : Store} → Step M c₀ ℓ σ ℓ′ σ′ ↔ Step M c₁ ℓ σ ℓ′ σ′
+  pub extension : {c₀ c₁ : Code} → ((ℓ : ℕ) (i : Instr) → (ℓ, i) ∈ c₀ → (ℓ, i) ∈ c₁) → Wellformed c₁ → {ℓ : ℕ} → InDom c₀ ℓ
+      → {ℓ′ : ℕ} {σ σ′ : Store} → Step M c₀ ℓ σ ℓ′ σ′ ↔ Step M c₁ ℓ σ ℓ′ σ′
   extension more wf d = (λ s. extend more (taken s), λ s. restrict more wf d (taken s))
 
   -- ---- the run
@@ -155,7 +163,8 @@ module _ (M : Meaning) where
       go rec (some i) e = step-first (can-step σ i (fetched-in c ℓ i e)) (rec (nextLabel M i ℓ σ) (nextStore M i σ))
 
   -- one step of the run
-  pub run-step : (c : Code) (n ℓ : ℕ) (σ : Store) (i : Instr) → fetch c ℓ ≡ some i → run M c (suc n) ℓ σ ≡ run M c n (nextLabel M i ℓ σ) (nextStore M i σ)
+  pub run-step : (c : Code) (n ℓ : ℕ) (σ : Store) (i : Instr) → fetch c ℓ ≡ some i
+      → run M c (suc n) ℓ σ ≡ run M c n (nextLabel M i ℓ σ) (nextStore M i σ)
   unfolding run
   run-step c n ℓ σ i e = rw (e, run) refl
 
@@ -217,7 +226,8 @@ module _ (M : Meaning) where
   same-steps : {c : Code} {k n ℓ ℓ₁ ℓ′ : ℕ} {σ σ₁ σ′ : Store} → k ≡ n → ℓ₁ ≡ ℓ′ → σ₁ ≡ σ′ → Steps M c k ℓ σ ℓ₁ σ₁ → Steps M c n ℓ σ ℓ′ σ′
   same-steps p q r s = rw (← p, ← q, ← r) s
 
-  finished-by : {c : Code} {n ℓ : ℕ} {σ : Store} {h : Halted} → RunSays c n ℓ σ h → {ℓ′ : ℕ} {σ′ : Store} {left : ℕ} → h ≡ finished ℓ′ σ′ left → Finished c n ℓ σ ℓ′ σ′ left
+  finished-by : {c : Code} {n ℓ : ℕ} {σ : Store} {h : Halted} → RunSays c n ℓ σ h → {ℓ′ : ℕ} {σ′ : Store} {left : ℕ}
+      → h ≡ finished ℓ′ σ′ left → Finished c n ℓ σ ℓ′ σ′ left
   finished-by {c} {n} (finishes {ℓ′ = ℓ₁} {σ′ = σ₁} k m r e f) {ℓ′} {σ′} {left} q =
       let label : ℓ₁ ≡ ℓ′ = cc in let store : σ₁ ≡ σ′ = cc in let fuel : m ≡ left = cc in let taken : k ≡ n - left = omega arith in
       record { steps = same-steps taken label store r; within = omega arith; stuck = unfetched c ℓ′ (ap (fetch c) (sym label) ∙ f) }
@@ -229,7 +239,8 @@ module _ (M : Meaning) where
       let label : ℓ₁ ≡ ℓ′ = cc in let store : σ₁ ≡ σ′ = cc in
       record { steps = same-steps refl label store r; goes-on = (i, fetched-in c ℓ′ i (ap (fetch c) (sym label) ∙ f)) }
 
-  pub finished-steps : (c : Code) (n ℓ : ℕ) (σ : Store) → {ℓ′ : ℕ} {σ′ : Store} {left : ℕ} → run M c n ℓ σ ≡ finished ℓ′ σ′ left → Finished c n ℓ σ ℓ′ σ′ left
+  pub finished-steps : (c : Code) (n ℓ : ℕ) (σ : Store) → {ℓ′ : ℕ} {σ′ : Store} {left : ℕ} → run M c n ℓ σ ≡ finished ℓ′ σ′ left
+      → Finished c n ℓ σ ℓ′ σ′ left
   finished-steps c n ℓ σ q = finished-by (run-says c n ℓ σ) q
 
   pub out-steps : (c : Code) (n ℓ : ℕ) (σ : Store) → {ℓ′ : ℕ} {σ′ : Store} → run M c n ℓ σ ≡ out ℓ′ σ′ → RunOut c n ℓ σ ℓ′ σ′

@@ -12,8 +12,10 @@ use mathlib.Core.Option.{none}
 use Rattle.rules.specs.Lists.{fetch}
 use Rattle.rules.specs.Expression.{Store}
 use Rattle.rules.specs.While.{Stm, Meaning, Evaluates, count}
-use Rattle.rules.specs.Goto.{Instr, _≔_, goto, ifnot, Code, _∈_, InDom, Wellformed, Step, Steps, none-yet, one-more, Stuck, nextLabel, nextStore, finished, run}
-use Rattle.rules.specs.SGoto.{SCode, single, 𝟎, _⊕_, Dom, WellformedS, U, EvaluatesS, assign-ns, goto-ns, ifngoto-tt-ns, ifngoto-ff-ns, ⊕₀-ns, ⊕₁-ns, ood-ns}
+use Rattle.rules.specs.Goto.{Instr, _≔_, goto, ifnot, Code, _∈_, InDom, Wellformed, Step, Steps, none-yet}
+use Rattle.rules.specs.Goto.{one-more, Stuck, nextLabel, nextStore, finished, run}
+use Rattle.rules.specs.SGoto.{SCode, single, 𝟎, _⊕_, Dom, WellformedS, U, EvaluatesS, assign-ns, goto-ns}
+use Rattle.rules.specs.SGoto.{ifngoto-tt-ns, ifngoto-ff-ns, ⊕₀-ns, ⊕₁-ns, ood-ns}
 use Rattle.rules.specs.Compilation.{Compiles, size, compile}
 use Rattle.rules.proofs.GotoLaws.{Takes, takes, taken, can-step, bears, stuck-outside, extend, run-steps, run-finished, outside}
 use Rattle.rules.proofs.CompilationLaws.{known, compiled-code, compile-wellformed, dom-code, interval, compiled-wellformed}
@@ -53,7 +55,8 @@ module _ (M : Meaning) where
   then-steps {n = n} none-yet r = (n, r)
   then-steps (one-more s q) r = let t = then-steps q r in (suc (t .0), one-more s (t .1))
 
-  more-steps : {c d : Code} → ((ℓ : ℕ) (i : Instr) → (ℓ, i) ∈ c → (ℓ, i) ∈ d) → {k ℓ ℓ′ : ℕ} {σ σ′ : Store} → Steps M c k ℓ σ ℓ′ σ′ → Steps M d k ℓ σ ℓ′ σ′
+  more-steps : {c d : Code} → ((ℓ : ℕ) (i : Instr) → (ℓ, i) ∈ c → (ℓ, i) ∈ d) → {k ℓ ℓ′ : ℕ} {σ σ′ : Store}
+      → Steps M c k ℓ σ ℓ′ σ′ → Steps M d k ℓ σ ℓ′ σ′
   more-steps more none-yet = none-yet
   more-steps more (one-more s r) = one-more (extend M more (taken M s)) (more-steps more r)
 
@@ -80,7 +83,8 @@ module _ (M : Meaning) where
   stays-put none-yet n = (refl, refl)
   stays-put (one-more s r) n = absurd (n (bears M (taken M s)))
 
-  evaluates-test : (ℓ b m : ℕ) (σ : Store) (v : Bool) → M .holds b σ ≡ v → (elim v [ true ↦ ℓ + 1 | false ↦ m ] ≡ ℓ → ⊥) → EvaluatesS M (single ℓ (ifnot b m)) ℓ σ (elim v [ true ↦ ℓ + 1 | false ↦ m ]) σ
+  evaluates-test : (ℓ b m : ℕ) (σ : Store) (v : Bool) → M .holds b σ ≡ v → (elim v [ true ↦ ℓ + 1 | false ↦ m ] ≡ ℓ → ⊥)
+      → EvaluatesS M (single ℓ (ifnot b m)) ℓ σ (elim v [ true ↦ ℓ + 1 | false ↦ m ]) σ
   evaluates-test ℓ b m σ true h ne = ifngoto-tt-ns h
   evaluates-test ℓ b m σ false h ne = ifngoto-ff-ns h ne
 
@@ -98,10 +102,12 @@ module _ (M : Meaning) where
   self-jump ℓ (goto m) σ e = refl
   self-jump ℓ (ifnot b m) σ e = refl
 
-  evaluates-at : {sc : SCode} {ℓ ℓ₁ ℓ′ ℓ₂ : ℕ} {σ σ₁ σ′ σ₂ : Store} → ℓ ≡ ℓ₁ → σ ≡ σ₁ → ℓ′ ≡ ℓ₂ → σ′ ≡ σ₂ → EvaluatesS M sc ℓ σ ℓ′ σ′ → EvaluatesS M sc ℓ₁ σ₁ ℓ₂ σ₂
+  evaluates-at : {sc : SCode} {ℓ ℓ₁ ℓ′ ℓ₂ : ℕ} {σ σ₁ σ′ σ₂ : Store} → ℓ ≡ ℓ₁ → σ ≡ σ₁ → ℓ′ ≡ ℓ₂ → σ′ ≡ σ₂
+      → EvaluatesS M sc ℓ σ ℓ′ σ′ → EvaluatesS M sc ℓ₁ σ₁ ℓ₂ σ₂
   evaluates-at p q r s e = rw (← p, ← q, ← r, ← s) e
 
-  single-evaluates : (ℓ₀ : ℕ) (i : Instr) {k ℓ ℓ′ : ℕ} {σ σ′ : Store} → Steps M ((ℓ₀, i) ∷ []) k ℓ σ ℓ′ σ′ → (ℓ′ ≡ ℓ₀ → ⊥) → EvaluatesS M (single ℓ₀ i) ℓ σ ℓ′ σ′
+  single-evaluates : (ℓ₀ : ℕ) (i : Instr) {k ℓ ℓ′ : ℕ} {σ σ′ : Store} → Steps M ((ℓ₀, i) ∷ []) k ℓ σ ℓ′ σ′ → (ℓ′ ≡ ℓ₀ → ⊥)
+      → EvaluatesS M (single ℓ₀ i) ℓ σ ℓ′ σ′
   unfolding Dom
   single-evaluates ℓ₀ i none-yet ne = ood-ns ne
   single-evaluates ℓ₀ i {ℓ′ = ℓ′} {σ′ = σ′} (one-more {ℓ = ℓ} {ℓ″ = ℓ″} {σ = σ} {σ″ = σ″} s r) ne = go (taken M s) (single-evaluates ℓ₀ i r ne) (ℕ-discrete ℓ″ ℓ₀)
@@ -132,7 +138,8 @@ module _ (M : Meaning) where
     sum : taken-in + left ≡ k
     some-taken : Dom sc ℓ → 0 < taken-in
 
-  leaves : (sc : SCode) (c : Code) → ((m : ℕ) (i : Instr) → (m, i) ∈ c → Dom sc m → (m, i) ∈ U sc) → {k ℓ ℓ′ : ℕ} {σ σ′ : Store} → Steps M c k ℓ σ ℓ′ σ′ → (Dom sc ℓ′ → ⊥) → Leaves sc c k ℓ σ ℓ′ σ′
+  leaves : (sc : SCode) (c : Code) → ((m : ℕ) (i : Instr) → (m, i) ∈ c → Dom sc m → (m, i) ∈ U sc) → {k ℓ ℓ′ : ℕ} {σ σ′ : Store}
+      → Steps M c k ℓ σ ℓ′ σ′ → (Dom sc ℓ′ → ⊥) → Leaves sc c k ℓ σ ℓ′ σ′
   leaves sc c own {ℓ = ℓ} {σ = σ} none-yet n =
       record { label = ℓ; store = σ; taken-in = zero; left = zero; inner = none-yet; gone = n; outer = none-yet; sum = refl; some-taken = λ d. absurd (n d) }
   leaves sc c own {ℓ′ = ℓ′} {σ′ = σ′} (one-more {n = k} {ℓ = ℓ} {ℓ″ = ℓ″} {σ = σ} {σ″ = σ″} s r) n = go (dom? sc ℓ) (taken M s) (leaves sc c own r n)
@@ -162,12 +169,14 @@ module _ (M : Meaning) where
     own₁ : (m : ℕ) (i : Instr) → (m, i) ∈ (U sc₀ ++ U sc₁) → Dom sc₁ m → (m, i) ∈ U sc₁
     own₁ m i h d = ⊎-elim (λ g. absurd (apart m (dom-code sc₀ m .1 (i, g)) d)) (λ g. g) (List·Memᴰ·append-cases (U sc₀) h)
 
-    union-evaluates : (n k ℓ ℓ′ : ℕ) (σ σ′ : Store) → k < n → Steps M (U sc₀ ++ U sc₁) k ℓ σ ℓ′ σ′ → (Dom sc₀ ℓ′ ⊎ Dom sc₁ ℓ′ → ⊥) → EvaluatesS M (sc₀ ⊕ sc₁) ℓ σ ℓ′ σ′
+    union-evaluates : (n k ℓ ℓ′ : ℕ) (σ σ′ : Store) → k < n → Steps M (U sc₀ ++ U sc₁) k ℓ σ ℓ′ σ′ → (Dom sc₀ ℓ′ ⊎ Dom sc₁ ℓ′ → ⊥)
+        → EvaluatesS M (sc₀ ⊕ sc₁) ℓ σ ℓ′ σ′
     unfolding Dom U
     union-evaluates zero k ℓ ℓ′ σ σ′ l r out = absurd (omega arith)
     union-evaluates (suc n) k ℓ ℓ′ σ σ′ l r out = go (λ j ℓ″ σ″ h q. union-evaluates n j ℓ″ ℓ′ σ″ σ′ h q out) (dom? sc₀ ℓ) (dom? sc₁ ℓ)
       where
-        go : ((j ℓ″ : ℕ) (σ″ : Store) → j < n → Steps M (U sc₀ ++ U sc₁) j ℓ″ σ″ ℓ′ σ′ → EvaluatesS M (sc₀ ⊕ sc₁) ℓ″ σ″ ℓ′ σ′) → Dec (Dom sc₀ ℓ) → Dec (Dom sc₁ ℓ) → EvaluatesS M (sc₀ ⊕ sc₁) ℓ σ ℓ′ σ′
+        go : ((j ℓ″ : ℕ) (σ″ : Store) → j < n → Steps M (U sc₀ ++ U sc₁) j ℓ″ σ″ ℓ′ σ′ → EvaluatesS M (sc₀ ⊕ sc₁) ℓ″ σ″ ℓ′ σ′)
+            → Dec (Dom sc₀ ℓ) → Dec (Dom sc₁ ℓ) → EvaluatesS M (sc₀ ⊕ sc₁) ℓ σ ℓ′ σ′
         go rec (yes d) e =
             let p = leaves sc₀ (U sc₀ ++ U sc₁) own₀ r (λ h. out (inl h)) in
             ⊕₀-ns d (first _ _ _ _ _ (p .inner) (p .gone)) (rec (p .left) (p .label) (p .store) (omega (arith, p .sum, p .some-taken d)) (p .outer))
@@ -202,10 +211,12 @@ module _ (M : Meaning) where
   gone-unfetched : {sc : SCode} {ℓ ℓ′ : ℕ} {σ σ′ : Store} → EvaluatesS M sc ℓ σ ℓ′ σ′ → fetch (U sc) ℓ′ ≡ none
   gone-unfetched {sc} {ℓ′ = ℓ′} e = outside (U sc) ℓ′ (λ d. postlabels e (dom-code sc ℓ′ .1 d))
 
-  finishes-with : {sc : SCode} {ℓ ℓ′ : ℕ} {σ σ′ : Store} → WellformedS sc → (e : EvaluatesS M sc ℓ σ ℓ′ σ′) (m : ℕ) → run M (U sc) (reduces e .0 + m) ℓ σ ≡ finished ℓ′ σ′ m
+  finishes-with : {sc : SCode} {ℓ ℓ′ : ℕ} {σ σ′ : Store} → WellformedS sc → (e : EvaluatesS M sc ℓ σ ℓ′ σ′) (m : ℕ)
+      → run M (U sc) (reduces e .0 + m) ℓ σ ≡ finished ℓ′ σ′ m
   finishes-with {sc} {ℓ′ = ℓ′} {σ′ = σ′} wf e m = run-steps M (wellformed-code sc wf) (reduces e .1) m ∙ run-finished M (U sc) m ℓ′ σ′ (gone-unfetched e)
 
-  pub evaluation-deterministic : {sc : SCode} {ℓ ℓ′ ℓ″ : ℕ} {σ σ′ σ″ : Store} → WellformedS sc → EvaluatesS M sc ℓ σ ℓ′ σ′ → EvaluatesS M sc ℓ σ ℓ″ σ″ → (ℓ′ ≡ ℓ″) × (σ′ ≡ σ″)
+  pub evaluation-deterministic : {sc : SCode} {ℓ ℓ′ ℓ″ : ℕ} {σ σ′ σ″ : Store} → WellformedS sc → EvaluatesS M sc ℓ σ ℓ′ σ′
+      → EvaluatesS M sc ℓ σ ℓ″ σ″ → (ℓ′ ≡ ℓ″) × (σ′ ≡ σ″)
   evaluation-deterministic {sc} {ℓ} {ℓ′} {ℓ″} {σ} {σ′} {σ″} wf a b =
       let swap : reduces b .0 + reduces a .0 ≡ reduces a .0 + reduces b .0 = omega arith in
       let other : run M (U sc) (reduces a .0 + reduces b .0) ℓ σ ≡ finished ℓ″ σ″ (reduces a .0) = rw swap at (finishes-with wf b (reduces a .0)) in
@@ -221,7 +232,8 @@ module _ (M : Meaning) where
       reduction-evaluates sc (compiled-wellformed c) (count d) ℓ ℓ′ σ σ′ steps (λ h. omega (arith, interval c .inside ℓ′ h .1))
 
   -- Theorem 16 (reflection of evaluations)
-  pub reflection : {s : Stm} {ℓ ℓ′ ℓ″ : ℕ} {sc : SCode} {σ σ′ : Store} → Compiles s ℓ sc ℓ′ → EvaluatesS M sc ℓ σ ℓ″ σ′ → (ℓ″ ≡ ℓ′) × Evaluates M s σ σ′
+  pub reflection : {s : Stm} {ℓ ℓ′ ℓ″ : ℕ} {sc : SCode} {σ σ′ : Store} → Compiles s ℓ sc ℓ′ → EvaluatesS M sc ℓ σ ℓ″ σ′
+      → (ℓ″ ≡ ℓ′) × Evaluates M s σ σ′
   reflection {s} {ℓ} {ℓ′} {ℓ″} {sc} {σ} {σ′} c e =
       let r : Reduces (U sc) ℓ σ ℓ″ σ′ = reduces e in
       let steps : Steps M (compile s ℓ) (r .0) ℓ σ ℓ″ σ′ = rw (compiled-code c) at (r .1) in

@@ -199,7 +199,8 @@ pub record Demand-3 (M : Meaning) (s : Stm) (ℓ n : ℕ) (σ : Store) : Type 0 
   pub finishes-only-if : {ℓ′ : ℕ} {σ′ : Store} {left : ℕ} → run M (compile s ℓ) n ℓ σ ≡ finished ℓ′ σ′ left
       → (ℓ′ ≡ ℓ + size s) × ((d : Evaluates M s σ σ′) × (count d + left ≡ n))
 
-finished-as : {M : Meaning} {c : Code} {ℓ e : ℕ} {o : Outcome} {h : Halted} → (k : (m : ℕ) (σ : Store) → run M c m e σ ≡ finished e σ m) → Follows M c ℓ e o h
+finished-as : {M : Meaning} {c : Code} {ℓ e : ℕ} {o : Outcome} {h : Halted}
+    → (k : (m : ℕ) (σ : Store) → run M c m e σ ≡ finished e σ m) → Follows M c ℓ e o h
     → {ℓ′ : ℕ} {σ′ : Store} {left : ℕ} → h ≡ finished ℓ′ σ′ left → (ℓ′ ≡ e) × (o ≡ done σ′ left)
 finished-as {e = e} end (arrives {σ = σ₁} {left = m} f) {ℓ′} {σ′} {left} q =
     let at-end : finished e σ₁ m ≡ finished ℓ′ σ′ left = sym (end m σ₁) ∙ sym f ∙ q in (cc, cc)

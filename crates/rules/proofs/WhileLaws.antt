@@ -7,7 +7,10 @@ use native.Mathlib.Omega.{arith}
 use mathlib.Core.Bool.{Bool, true, false}
 use lib.ListN.{length, length-set}
 use Rattle.rules.specs.Expression.{Store}
-use Rattle.rules.specs.While.{Stm, skip, assign, seq, if, while, Meaning, Evaluates, assign-ns, skip-ns, comp-ns, if-tt-ns, if-ff-ns, while-tt-ns, while-ff-ns, count, Unfinished, at-assign, in-first, in-second, at-test, in-then, at-then-end, in-else, at-while-test, in-body, at-pass-end, in-next-pass, Outcome, done, stop, andThen, spend, passes, exec}
+use Rattle.rules.specs.While.{Stm, skip, assign, seq, if, while, Meaning, Evaluates, assign-ns, skip-ns, comp-ns}
+use Rattle.rules.specs.While.{if-tt-ns, if-ff-ns, while-tt-ns, while-ff-ns, count, Unfinished, at-assign}
+use Rattle.rules.specs.While.{in-first, in-second, at-test, in-then, at-then-end, in-else, at-while-test, in-body}
+use Rattle.rules.specs.While.{at-pass-end, in-next-pass, Outcome, done, stop, andThen, spend, passes, exec}
 
 -- what an outcome of a run with fuel n says of the rules
 pub data Says (M : Meaning) (s : Stm) (n : ℕ) (σ : Store) : Outcome → Type 0 where
@@ -42,17 +45,20 @@ module _ (M : Meaning) where
 
   -- one lemma for each way to join two outcomes
 
-  in-sequence : {s₀ s₁ : Stm} {n m : ℕ} {σ σ″ : Store} (d : Evaluates M s₀ σ σ″) → count d + m ≡ n → {o : Outcome} → Says M s₁ m σ″ o → Says M (seq s₀ s₁) n σ o
+  in-sequence : {s₀ s₁ : Stm} {n m : ℕ} {σ σ″ : Store} (d : Evaluates M s₀ σ σ″) → count d + m ≡ n → {o : Outcome}
+      → Says M s₁ m σ″ o → Says M (seq s₀ s₁) n σ o
   unfolding count
   in-sequence d e (evaluated left d₁ e₁) = evaluated left (comp-ns d d₁) (omega arith)
   in-sequence d e (unfinished u) = after e (in-second d u)
 
-  seq-says : (s₀ s₁ : Stm) (n : ℕ) (σ : Store) → ((m : ℕ) (σ₁ : Store) → Says M s₁ m σ₁ (exec M s₁ m σ₁)) → (o : Outcome) → Says M s₀ n σ o → Says M (seq s₀ s₁) n σ (andThen o (λ σ₁ m. exec M s₁ m σ₁))
+  seq-says : (s₀ s₁ : Stm) (n : ℕ) (σ : Store) → ((m : ℕ) (σ₁ : Store) → Says M s₁ m σ₁ (exec M s₁ m σ₁)) → (o : Outcome)
+      → Says M s₀ n σ o → Says M (seq s₀ s₁) n σ (andThen o (λ σ₁ m. exec M s₁ m σ₁))
   unfolding andThen
   seq-says s₀ s₁ n σ second (done σ₁ m) (evaluated left d e) = in-sequence d e (second m σ₁)
   seq-says s₀ s₁ n σ second (stop σ₁) (unfinished u) = unfinished (in-first u)
 
-  then-says : (b : ℕ) (sₜ s : Stm) (n : ℕ) (σ : Store) → M .holds b σ ≡ true → (o : Outcome) → Says M sₜ n σ o → Says M (if b sₜ s) (suc n) σ (andThen o (λ σ₁ j. spend (done σ₁) σ₁ j))
+  then-says : (b : ℕ) (sₜ s : Stm) (n : ℕ) (σ : Store) → M .holds b σ ≡ true → (o : Outcome) → Says M sₜ n σ o
+      → Says M (if b sₜ s) (suc n) σ (andThen o (λ σ₁ j. spend (done σ₁) σ₁ j))
   unfolding andThen spend count
   then-says b sₜ s n σ h (done σ₁ zero) (evaluated left d e) = after (omega arith) (at-then-end h d)
   then-says b sₜ s n σ h (done σ₁ (suc m)) (evaluated left d e) = evaluated m (if-tt-ns h d) (omega arith)
@@ -69,13 +75,15 @@ module _ (M : Meaning) where
   if-says b sₜ s n σ true h t f = t h
   if-says b sₜ s n σ false h t f = f h
 
-  next-pass-says : (b : ℕ) (sₜ : Stm) (n m : ℕ) (σ σ″ : Store) → M .holds b σ ≡ true → (d : Evaluates M sₜ σ σ″) → count d + suc m ≡ n → {o : Outcome} → Says M (while b sₜ) m σ″ o → Says M (while b sₜ) (suc n) σ o
+  next-pass-says : (b : ℕ) (sₜ : Stm) (n m : ℕ) (σ σ″ : Store) → M .holds b σ ≡ true → (d : Evaluates M sₜ σ σ″)
+      → count d + suc m ≡ n → {o : Outcome} → Says M (while b sₜ) m σ″ o → Says M (while b sₜ) (suc n) σ o
   unfolding count
   next-pass-says b sₜ n m σ σ″ h d e (evaluated left d′ e′) = evaluated left (while-tt-ns h d d′) (omega arith)
   next-pass-says b sₜ n m σ σ″ h d e (unfinished u) = after (omega arith) (in-next-pass h d u)
 
   -- one pass, given what the passes after it say
-  pass-says : (b : ℕ) (sₜ : Stm) (g n : ℕ) (σ : Store) → n < g → ((m : ℕ) (σ₁ : Store) → m < g → Says M (while b sₜ) m σ₁ (passes (M .holds b) (exec M sₜ) g m σ₁))
+  pass-says : (b : ℕ) (sₜ : Stm) (g n : ℕ) (σ : Store) → n < g
+      → ((m : ℕ) (σ₁ : Store) → m < g → Says M (while b sₜ) m σ₁ (passes (M .holds b) (exec M sₜ) g m σ₁))
       → M .holds b σ ≡ true → (o : Outcome) → Says M sₜ n σ o
       → Says M (while b sₜ) (suc n) σ (andThen o (λ σ₁ n₂. spend (λ n₃. passes (M .holds b) (exec M sₜ) g n₃ σ₁) σ₁ n₂))
   unfolding andThen spend
@@ -83,12 +91,15 @@ module _ (M : Meaning) where
   pass-says b sₜ g n σ l later h (done σ₁ (suc m)) (evaluated left d e) = next-pass-says b sₜ n m σ σ₁ h d e (later m σ₁ (omega arith))
   pass-says b sₜ g n σ l later h (stop σ₁) (unfinished u) = after (omega arith) (in-body h u)
 
-  while-says : (b : ℕ) (sₜ : Stm) (n : ℕ) (σ : Store) {o : Outcome} (v : Bool) → M .holds b σ ≡ v → (M .holds b σ ≡ true → Says M (while b sₜ) (suc n) σ o) → Says M (while b sₜ) (suc n) σ (elim v [ true ↦ o | false ↦ done σ n ])
+  while-says : (b : ℕ) (sₜ : Stm) (n : ℕ) (σ : Store) {o : Outcome} (v : Bool) → M .holds b σ ≡ v
+      → (M .holds b σ ≡ true → Says M (while b sₜ) (suc n) σ o)
+      → Says M (while b sₜ) (suc n) σ (elim v [ true ↦ o | false ↦ done σ n ])
   unfolding count
   while-says b sₜ n σ true h pass = pass h
   while-says b sₜ n σ false h pass = evaluated n (while-ff-ns h) (omega arith)
 
-  passes-say : (b : ℕ) (sₜ : Stm) → ((m : ℕ) (σ : Store) → Says M sₜ m σ (exec M sₜ m σ)) → (g n : ℕ) (σ : Store) → n < g → Says M (while b sₜ) n σ (passes (M .holds b) (exec M sₜ) g n σ)
+  passes-say : (b : ℕ) (sₜ : Stm) → ((m : ℕ) (σ : Store) → Says M sₜ m σ (exec M sₜ m σ)) → (g n : ℕ) (σ : Store) → n < g
+      → Says M (while b sₜ) n σ (passes (M .holds b) (exec M sₜ) g n σ)
   unfolding passes spend
   passes-say b sₜ body zero n σ l = absurd (omega arith)
   passes-say b sₜ body (suc g) zero σ l = unfinished at-while-test
@@ -150,7 +161,8 @@ module _ (M : Meaning) where
   same-test true z e = e
   same-test false z e = refl
 
-  same-pass : (b : ℕ) (sₜ : Stm) (g h n : ℕ) (σ : Store) → ((m : ℕ) (σ₁ : Store) → m < n → passes (M .holds b) (exec M sₜ) g m σ₁ ≡ passes (M .holds b) (exec M sₜ) h m σ₁)
+  same-pass : (b : ℕ) (sₜ : Stm) (g h n : ℕ) (σ : Store)
+      → ((m : ℕ) (σ₁ : Store) → m < n → passes (M .holds b) (exec M sₜ) g m σ₁ ≡ passes (M .holds b) (exec M sₜ) h m σ₁)
       → (o : Outcome) → AtMost n o
       → andThen o (λ σ₁ n₂. spend (λ n₃. passes (M .holds b) (exec M sₜ) g n₃ σ₁) σ₁ n₂) ≡ andThen o (λ σ₁ n₂. spend (λ n₃. passes (M .holds b) (exec M sₜ) h n₃ σ₁) σ₁ n₂)
   unfolding andThen spend
@@ -158,7 +170,8 @@ module _ (M : Meaning) where
   same-pass b sₜ g h n σ same (done σ₁ (suc m)) (some-left left l) = same m σ₁ (omega arith)
   same-pass b sₜ g h n σ same (stop σ₁) none-left = refl
 
-  more-passes : (b : ℕ) (sₜ : Stm) (g h n : ℕ) (σ : Store) → n < g → n < h → passes (M .holds b) (exec M sₜ) g n σ ≡ passes (M .holds b) (exec M sₜ) h n σ
+  more-passes : (b : ℕ) (sₜ : Stm) (g h n : ℕ) (σ : Store) → n < g → n < h
+      → passes (M .holds b) (exec M sₜ) g n σ ≡ passes (M .holds b) (exec M sₜ) h n σ
   unfolding passes spend
   more-passes b sₜ zero h n σ p q = absurd (omega arith)
   more-passes b sₜ (suc g) zero n σ p q = absurd (omega arith)
@@ -186,7 +199,8 @@ module _ (M : Meaning) where
     unfolding exec passes spend andThen
     while-owes n h e = rw (h, e)
 
-    pub while-again : (n m : ℕ) {σ₁ : Store} → M .holds b σ ≡ true → exec M sₜ n σ ≡ done σ₁ (suc m) → exec M (while b sₜ) (suc n) σ ≡ exec M (while b sₜ) m σ₁
+    pub while-again : (n m : ℕ) {σ₁ : Store} → M .holds b σ ≡ true → exec M sₜ n σ ≡ done σ₁ (suc m)
+        → exec M (while b sₜ) (suc n) σ ≡ exec M (while b sₜ) m σ₁
     unfolding exec passes spend andThen
     while-again n m {σ₁} h e = rw (h, e) (more-passes b sₜ (suc n) (suc m) m σ₁ (omega (arith, no-more-left sₜ n σ e)) (omega arith))
 
@@ -242,14 +256,16 @@ module _ (M : Meaning) where
     pub stop-if : (EvaluatesWithin M s σ n → ⊥) → (σ′ : Store) × (exec M s n σ ≡ stop σ′) × Unfinished M s σ n σ′
     pub stop-only-if : {σ′ : Store} → exec M s n σ ≡ stop σ′ → EvaluatesWithin M s σ n → ⊥
 
-  was-done : {s : Stm} {n : ℕ} {σ : Store} {o : Outcome} → Says M s n σ o → {σ′ : Store} {left : ℕ} → o ≡ done σ′ left → (d : Evaluates M s σ σ′) × (count d + left ≡ n)
+  was-done : {s : Stm} {n : ℕ} {σ : Store} {o : Outcome} → Says M s n σ o → {σ′ : Store} {left : ℕ} → o ≡ done σ′ left
+      → (d : Evaluates M s σ σ′) × (count d + left ≡ n)
   was-done {s} {n} {σ} (evaluated {σ′ = σ₁} m d e) {σ′} {left} q =
       let stores : σ₁ ≡ σ′ = cc in
       let fuel : m ≡ left = cc in
       subst (λ (z : Store). (d : Evaluates M s σ z) × (count d + left ≡ n)) stores (d, omega arith)
   was-done (unfinished {σ′ = σ₁} u) q = let z : _≡_ {A = ℕ} 0 1 = cc in absurd (omega arith)
 
-  was-stopped : {s : Stm} {n : ℕ} {σ : Store} (o : Outcome) → Says M s n σ o → (EvaluatesWithin M s σ n → ⊥) → (σ′ : Store) × (o ≡ stop σ′) × Unfinished M s σ n σ′
+  was-stopped : {s : Stm} {n : ℕ} {σ : Store} (o : Outcome) → Says M s n σ o → (EvaluatesWithin M s σ n → ⊥)
+      → (σ′ : Store) × (o ≡ stop σ′) × Unfinished M s σ n σ′
   was-stopped (done σ₁ m) (evaluated left d e) no-eval = absurd (no-eval (σ₁, d, omega arith))
   was-stopped (stop σ₁) (unfinished u) no-eval = (σ₁, refl, u)
 

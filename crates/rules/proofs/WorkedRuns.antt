@@ -126,5 +126,10 @@ cases =
     ∷ []
 
 pub worked-runs : map (λ (r : Run). r .asked) cases ≡ map (λ (r : Run). r .answer) cases
-unfolding cases compiled halted ended ran source-ran frame store skips two-skips listing listing-code empty-then empty-then-code empty-else empty-else-code _gives_ fetch lowest joined below wrap sum difference product quotient remainder isEqual isAtMost isLess apply holds valueIn andThen spend passes exec nextLabel nextStore run size compile refuse refuseLowest _orElse_ kindOf rowOf treeBy treeAt meaning program wholeTable wordFault nodeFault childIn children occurs onceFault deepest depthAt tableRefusal instrOf codeOf frameOf wordsOf wholeCode isNode fieldsFit rises codeFault codeRefusal
+unfolding cases compiled halted ended ran source-ran frame store skips two-skips listing listing-code empty-then
+    empty-then-code empty-else empty-else-code _gives_ fetch lowest joined below wrap sum difference product quotient
+    remainder isEqual isAtMost isLess apply holds valueIn andThen spend passes exec nextLabel nextStore run size
+    compile refuse refuseLowest _orElse_ kindOf rowOf treeBy treeAt meaning program wholeTable wordFault nodeFault
+    childIn children occurs onceFault deepest depthAt tableRefusal instrOf codeOf frameOf wordsOf wholeCode isNode
+    fieldsFit rises codeFault codeRefusal
 worked-runs = refl

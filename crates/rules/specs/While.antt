@@ -31,7 +31,8 @@ pub data Evaluates (M : Meaning) : Stm → Store → Store → Type 0 where
   comp-ns : {s₀ s₁ : Stm} {σ σ″ σ′ : Store} → Evaluates M s₀ σ σ″ → Evaluates M s₁ σ″ σ′ → Evaluates M (seq s₀ s₁) σ σ′
   if-tt-ns : {b : ℕ} {sₜ s : Stm} {σ σ′ : Store} → M .holds b σ ≡ true → Evaluates M sₜ σ σ′ → Evaluates M (if b sₜ s) σ σ′
   if-ff-ns : {b : ℕ} {sₜ s : Stm} {σ σ′ : Store} → M .holds b σ ≡ false → Evaluates M s σ σ′ → Evaluates M (if b sₜ s) σ σ′
-  while-tt-ns : {b : ℕ} {sₜ : Stm} {σ σ″ σ′ : Store} → M .holds b σ ≡ true → Evaluates M sₜ σ σ″ → Evaluates M (while b sₜ) σ″ σ′ → Evaluates M (while b sₜ) σ σ′
+  while-tt-ns : {b : ℕ} {sₜ : Stm} {σ σ″ σ′ : Store} → M .holds b σ ≡ true → Evaluates M sₜ σ σ″ → Evaluates M (while b sₜ) σ″ σ′
+      → Evaluates M (while b sₜ) σ σ′
   while-ff-ns : {b : ℕ} {sₜ : Stm} {σ : Store} → M .holds b σ ≡ false → Evaluates M (while b sₜ) σ σ
 
 -- "Skip costs 0. Assign costs 1. A sequence costs the sum of its parts. An if costs 1 for its test, then the branch taken, and 1 more
@@ -50,7 +51,8 @@ count (while-ff-ns h) = 1
 pub data Unfinished (M : Meaning) : Stm → Store → ℕ → Store → Type 0 where
   at-assign : {x a : ℕ} {σ : Store} → Unfinished M (assign x a) σ 0 σ
   in-first : {s₀ s₁ : Stm} {σ σ′ : Store} {n : ℕ} → Unfinished M s₀ σ n σ′ → Unfinished M (seq s₀ s₁) σ n σ′
-  in-second : {s₀ s₁ : Stm} {σ σ″ σ′ : Store} {n : ℕ} → (d : Evaluates M s₀ σ σ″) → Unfinished M s₁ σ″ n σ′ → Unfinished M (seq s₀ s₁) σ (count d + n) σ′
+  in-second : {s₀ s₁ : Stm} {σ σ″ σ′ : Store} {n : ℕ} → (d : Evaluates M s₀ σ σ″) → Unfinished M s₁ σ″ n σ′
+      → Unfinished M (seq s₀ s₁) σ (count d + n) σ′
   at-test : {b : ℕ} {sₜ s : Stm} {σ : Store} → Unfinished M (if b sₜ s) σ 0 σ
   in-then : {b : ℕ} {sₜ s : Stm} {σ σ′ : Store} {n : ℕ} → M .holds b σ ≡ true → Unfinished M sₜ σ n σ′ → Unfinished M (if b sₜ s) σ (1 + n) σ′
   at-then-end : {b : ℕ} {sₜ s : Stm} {σ σ′ : Store} → M .holds b σ ≡ true → (d : Evaluates M sₜ σ σ′) → Unfinished M (if b sₜ s) σ (1 + count d) σ′
@@ -58,7 +60,8 @@ pub data Unfinished (M : Meaning) : Stm → Store → ℕ → Store → Type 0 w
   at-while-test : {b : ℕ} {sₜ : Stm} {σ : Store} → Unfinished M (while b sₜ) σ 0 σ
   in-body : {b : ℕ} {sₜ : Stm} {σ σ′ : Store} {n : ℕ} → M .holds b σ ≡ true → Unfinished M sₜ σ n σ′ → Unfinished M (while b sₜ) σ (1 + n) σ′
   at-pass-end : {b : ℕ} {sₜ : Stm} {σ σ′ : Store} → M .holds b σ ≡ true → (d : Evaluates M sₜ σ σ′) → Unfinished M (while b sₜ) σ (1 + count d) σ′
-  in-next-pass : {b : ℕ} {sₜ : Stm} {σ σ″ σ′ : Store} {n : ℕ} → M .holds b σ ≡ true → (d : Evaluates M sₜ σ σ″) → Unfinished M (while b sₜ) σ″ n σ′ → Unfinished M (while b sₜ) σ (1 + count d + 1 + n) σ′
+  in-next-pass : {b : ℕ} {sₜ : Stm} {σ σ″ σ′ : Store} {n : ℕ} → M .holds b σ ≡ true → (d : Evaluates M sₜ σ σ″)
+      → Unfinished M (while b sₜ) σ″ n σ′ → Unfinished M (while b sₜ) σ (1 + count d + 1 + n) σ′
 
 -- ---- the run within fuel, as a function: done, with the fuel left, or stopped for want of fuel
 

@@ -5,6 +5,10 @@ use mathlib.Core.List.{List}
 use Prim.Native.Nat.{ℕ, _+_, _-_, _≤_}
 use native.Mathlib.Omega.{arith}
 use lib.IntN.{ℤ}
+use contract.Lifetimes.{Lfts}
+use denote.Ref.{now}
+use denote.Triple.Clauses.{AtExit}
+use borrow.Fn.Kinds.{Dens, endedOf}
 use Rattle.rules.specs.Expression.{Store}
 use Rattle.rules.specs.While.{Stm, Meaning, Evaluates, count, Unfinished, Outcome, done, stop, exec}
 use lib.ListN.{length}
@@ -17,6 +21,8 @@ use Rattle.rules.specs.Answer.{Ended, ended, unlessRefused}
 use Rattle.rules.specs.declared.Refusal.{Refusal}
 use Rattle.rules.specs.declared.SourceRun.{SourceRun}
 use Rattle.rules.proofs.WhileLaws.{EvaluatesWithin, Says, evaluated, unfinished, says, finds}
+use Rattle.run.proofs.source.run_source.Kinds.{ps, r}
+use Rattle.run.proofs.source.run_source.Reads.{Post}
 use Rattle.run.specs.SourceRun.{sourceRefusal, sourceEnd, sourceRun}
 
 -- what an answer, with the store after it, says of a table, a store and a fuel
@@ -24,7 +30,8 @@ pub data SourceSays (t : List ℕ) (σ : Store) (n : ℕ) : SourceRun → Store 
   -- a refusal is the first of 1 to 10 that the input earns, and leaves the store alone
   refused : (r : Refusal) → sourceRefusal t σ ≡ some r → SourceSays t σ n (SourceRun.Refused r) σ
   -- finished: the While rules give this evaluation, with this count
-  finished : {σ′ : Store} (d : Evaluates (meaning t) (program t) σ σ′) → sourceRefusal t σ ≡ none → count d ≤ n → SourceSays t σ n (SourceRun.Finished (count d)) σ′
+  finished : {σ′ : Store} (d : Evaluates (meaning t) (program t) σ σ′) → sourceRefusal t σ ≡ none → count d ≤ n
+      → SourceSays t σ n (SourceRun.Finished (count d)) σ′
   -- out of fuel: n units of an evaluation that the rules do not give within n
   out-of-fuel : {σ′ : Store} → sourceRefusal t σ ≡ none → (EvaluatesWithin (meaning t) (program t) σ n → ⊥)
       → Unfinished (meaning t) (program t) σ n σ′ → SourceSays t σ n (SourceRun.OutOfFuel n) σ′
@@ -41,7 +48,8 @@ module _ (t : List ℕ) (σ : Store) (n : ℕ) where
       stopped : {τ : Store} {left : ℕ} → stop σ′ ≡ done τ left → ⊥
       stopped {τ} {left} clash = let z : _≡_ {A = ℕ} 0 1 = cc in omega arith
 
-  answers : (o : Option Refusal) → sourceRefusal t σ ≡ o → (let end = unlessRefused SourceRun.Refused o σ (sourceEnd n (exec (meaning t) (program t) n σ)) in SourceSays t σ n (end .answer) (end .after))
+  answers : (o : Option Refusal) → sourceRefusal t σ ≡ o
+      → (let end = unlessRefused SourceRun.Refused o σ (sourceEnd n (exec (meaning t) (program t) n σ)) in SourceSays t σ n (end .answer) (end .after))
   unfolding unlessRefused
   answers (some r) e = refused r e
   answers none e = told (exec (meaning t) (program t) n σ) refl e (says (meaning t) (program t) n σ)
@@ -69,6 +77,9 @@ module _ (t : List ℕ) (σ : Store) (n : ℕ) where
   unfolding sourceRun sourceRefusal storeRefusal refuse unlessRefused
   source-runs e h = rw (none-orElse (tableRefusal t) (storeRefusal σ) e, eq-eqb (length σ) 32 h)
 
--- two answers that meet the contract are one, and so are the stores
-pub one-source-answer : (t : List ℕ) (σ : Store) (n : ℕ) {r₁ r₂ : SourceRun} {σ₁ σ₂ : Store} → ended r₁ σ₁ ≡ sourceRun t σ n → ended r₂ σ₂ ≡ sourceRun t σ n → (r₁ ≡ r₂) × (σ₁ ≡ σ₂)
-one-source-answer t σ n a b = (ap (λ x. x .answer) (a ∙ sym b), ap (λ x. x .after) (a ∙ sym b))
+-- two answers that meet the contract, as the check states it, are one, and so are the stores after them
+pub run-source-determined : (κs : Lfts 2) (a : Dens κs ps) (x y : SourceRun) (s t : AtExit (endedOf 2 ps r) κs)
+    → Post κs a x s → Post κs a y t → (x ≡ y) × (now (s .1 .0) ≡ now (t .1 .0))
+run-source-determined κs a x y s t p q =
+    let same = p ∙ sym q in
+    (ap (λ (e : Ended SourceRun ℤ). e .answer) same, ap (λ (e : Ended SourceRun ℤ). e .after) same)

@@ -70,7 +70,20 @@ module _ (m : ℕ) where
   branch-calls = (place-reads.Asked, place-reads.Learnt, boolean-reads.Asked, boolean-reads.Learnt, exec-below m, exec.Post, pay-reads.Asked, pay-reads.Learnt)
 
   abbrev exec-calls : exec-lts.Claims
-  exec-calls = (word-reads.Asked, word-reads.Learnt, assign-reads.Asked, assign-reads.Learnt, place-reads.Asked, place-reads.Learnt, exec-below m, exec.Post, branch-below m, branch.Post, repeat-below m, repeat.Post)
+  exec-calls = (
+    word-reads.Asked,
+    word-reads.Learnt,
+    assign-reads.Asked,
+    assign-reads.Learnt,
+    place-reads.Asked,
+    place-reads.Learnt,
+    exec-below m,
+    exec.Post,
+    branch-below m,
+    branch.Post,
+    repeat-below m,
+    repeat.Post,
+  )
 
   abbrev repeat-calls : repeat-lts.Claims
   repeat-calls = (place-reads.Asked, place-reads.Learnt, boolean-reads.Asked, boolean-reads.Learnt, exec-below m, exec.Post)
@@ -210,7 +223,9 @@ module _ (m : ℕ) where
 
   exec-exec-requires-2 : exec-lts.Need-exec-requires-2 (exec-calls m) (exec-at m) exec.Post
   unfolding rowOf
-  exec-exec-requires-2 c κs = let w = c .before .before .before .before .before .before .before .before .before in down (ready₂ w) (c .place2 .ensures) (as-sequence (c .before .before .before .before .before .before .before .before) .second) (falls₂ w)
+  exec-exec-requires-2 c κs =
+      let at = c .before .before .before .before .before .before .before .before in
+      down (ready₂ (at .before)) (c .place2 .ensures) (as-sequence at .second) (falls₂ (at .before))
 
   exec-enum-told : exec-lts.Need-enum-told (exec-calls m) (exec-at m) exec.Post
   exec-enum-told c = search needs
@@ -307,7 +322,8 @@ module _ (m : ℕ) where
       let s = l .before .before .before .before in
       record {
         is =
-            sym (l .loop .inv .1 ∙ loop-ends (as-while s) (l .loop .left) (l .loop .s) (omega linear) (tested (s .args .t .now) (l .loop .s) (test .before .boolean .ensures) (l .before .before .place .ensures) (not-true _ (c .if1 .taken))));
+            sym (l .loop .inv .1 ∙ loop-ends (as-while s) (l .loop .left) (l .loop .s) (omega linear)
+            (tested (s .args .t .now) (l .loop .s) (test .before .boolean .ensures) (l .before .before .place .ensures) (not-true _ (c .if1 .taken))));
       }
 
   repeat-sub-exec : repeat-lts.Need-sub-exec (repeat-calls m) (repeat-at m) repeat.Post repeat-Inv-loop repeat-μ-loop
@@ -315,7 +331,10 @@ module _ (m : ℕ) where
 
   repeat-exec-requires : repeat-lts.Need-exec-requires (repeat-calls m) (repeat-at m) repeat.Post repeat-Inv-loop repeat-μ-loop
   unfolding rowOf
-  repeat-exec-requires c κs = let s = c .before .before .before .before .before .before .before .before .before in down (ready₃ s) (c .before .before .before .before .before .before .place2 .ensures) (as-while s .second) (falls₃ s)
+  repeat-exec-requires c κs =
+      let body = c .before .before .before .before .before .before in
+      let s = body .before .before .before in
+      down (ready₃ s) (body .place2 .ensures) (as-while s .second) (falls₃ s)
 
   repeat-enum-known-more : repeat-lts.Need-enum-known-more (repeat-calls m) (repeat-at m) repeat.Post repeat-Inv-loop repeat-μ-loop
   repeat-enum-known-more c = search needs
@@ -329,7 +348,8 @@ module _ (m : ℕ) where
       let s = l .before .before .before .before in
       record {
         is =
-            sym (l .loop .inv .1 ∙ loop-owes (as-while s) (l .loop .left) (l .loop .s) _ (omega linear) (tested (s .args .t .now) (l .loop .s) (test .before .boolean .ensures) (l .before .before .place .ensures) (not-false _ (test .if1 .left)))
+            sym (l .loop .inv .1 ∙ loop-owes (as-while s) (l .loop .left) (l .loop .s) _ (omega linear)
+            (tested (s .args .t .now) (l .loop .s) (test .before .boolean .ensures) (l .before .before .place .ensures) (not-false _ (test .if1 .left)))
             (ran-done (x .exec .ensures) (l .before .place2 .ensures) 0 (c .before .before .more .given .1 ∙ ap Left.Units (c .if2 .taken))));
       }
 
@@ -347,7 +367,8 @@ module _ (m : ℕ) where
       let s = l .before .before .before .before in (
         omega (linear, l .loop .inv .0, left-most (x .exec .ensures) _ (c .before .before .more .given .1)),
         l .loop .inv .1
-            ∙ loop-again (as-while s) (l .loop .left) _ (l .loop .s) _ (omega linear) (omega (linear, c .if2 .left)) (tested (s .args .t .now) (l .loop .s) (test .before .boolean .ensures) (l .before .before .place .ensures) (not-false _ (test .if1 .left)))
+            ∙ loop-again (as-while s) (l .loop .left) _ (l .loop .s) _ (omega linear) (omega (linear, c .if2 .left))
+            (tested (s .args .t .now) (l .loop .s) (test .before .boolean .ensures) (l .before .before .place .ensures) (not-false _ (test .if1 .left)))
             (ran-done (x .exec .ensures) (l .before .place2 .ensures) _ (c .before .before .more .given .1)),
       )
 
@@ -363,7 +384,8 @@ module _ (m : ℕ) where
       let s = l .before .before .before .before in
       record {
         is =
-            sym (l .loop .inv .1 ∙ loop-stopped (as-while s) (l .loop .left) (l .loop .s) _ (omega linear) (tested (s .args .t .now) (l .loop .s) (test .before .boolean .ensures) (l .before .before .place .ensures) (not-false _ (test .if1 .left)))
+            sym (l .loop .inv .1 ∙ loop-stopped (as-while s) (l .loop .left) (l .loop .s) _ (omega linear)
+            (tested (s .args .t .now) (l .loop .s) (test .before .boolean .ensures) (l .before .before .place .ensures) (not-false _ (test .if1 .left)))
             (ran-spent (x .exec .ensures) (l .before .place2 .ensures) (c .enum-told .given .1)));
       }
 

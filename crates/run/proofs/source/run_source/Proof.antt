@@ -70,7 +70,10 @@ exec-requires c κs =
     record { accepted = passed b; inside = omega (arith, f .some-nodes); class = f .root-statement }
 
 put-back-requires : tie.Need-put-back-requires
-put-back-requires c κs = (length-32 (c .before .before .before .before .before .before), ran-length _ (c .before .before .exec .ensures) ∙ ap length (c .before .before .before .before .taken .ensures) ∙ length-32 (c .before .before .before .before .before .before))
+put-back-requires c κs =
+    let x = c .before .before in
+    let values = length-32 (x .before .before .before .before) in
+    (values, ran-length _ (x .exec .ensures) ∙ ap length (x .before .before .taken .ensures) ∙ values)
 
 enum-known-left : tie.Need-enum-known-left
 enum-known-left c = search needs
