@@ -1,5 +1,4 @@
-// The answers of the calls. What each call answers, and when, is said in specs/.
-ghost use mathlib.Core.Path.{_≡_};
+// The answers of the calls. What each call answers, and when, is said in specs/ of the call's crate.
 
 // A refusal carries its number and its place.
 pub struct Refusal {
@@ -45,12 +44,4 @@ pub enum Compiled {
 pub enum Text {
     Done(u32),
     Refused(Refusal),
-}
-
-impl Refusal {
-    pub fn new(number: u32, place: u32) -> Self
-        ensures { λ r. ⌜ (r .number ≡ number) × (r .place ≡ place) ⌝ }
-    {
-        Self { number, place }
-    }
 }
