@@ -3,6 +3,7 @@
 mod calls;
 mod lua;
 mod measure;
+mod once;
 mod ours;
 mod runs;
 mod workloads;
@@ -11,6 +12,10 @@ use ours::Ours;
 
 fn main() {
     let ours = Ours::new();
+    let words: Vec<String> = std::env::args().skip(1).collect();
+    if let [side, row] = &words[..] {
+        return once::once(&ours, side, row);
+    }
     println!("Ours: {}. Plain Rust: the oracle of tests/outside.\n", outside::calls::SUBJECT);
     println!("- {}", measure::METHOD);
     println!(

@@ -26,7 +26,7 @@ pub fn programs(ours: &Ours) {
     }
 }
 
-fn first_store(program: &Program) -> Store {
+pub fn first_store(program: &Program) -> Store {
     let mut store = [0; 32];
     store[0] = program.from;
     store

@@ -1,26 +1,30 @@
 -- A node that can be evaluated: its words can be read, it is as its kind says, and each of its children can be evaluated in turn.
-use mathlib.Core.Path.{_≡_, sym, ap, _∙_}
-use mathlib.Core.Bool.{Bool}
+use mathlib.Core.Path.{_≡_, refl, sym, ap, _∙_}
+use mathlib.Core.Bool.{Bool, true, false, _&&_}
 use mathlib.Core.List.{List}
 use Prim.Native.Nat.{ℕ, _+_, _*_, _<_, _≤_}
 use native.Mathlib.Omega.{arith}
+use lib.Dec.{leb}
 use lib.IntN.{ℤ}
 use lib.ListN.{length}
 use lib.Signed.{mag}
 use mir.Syntax.{w32}
+use borrow.Author.Tests.{leb-false}
 use Rattle.rules.specs.Expression.{Store}
 use Rattle.rules.specs.Table.{Kind, Class, arithmetic, boolean, field, kindOf, meaning}
 use Rattle.rules.proofs.TableLaws.{accepted-facts, NodeAs, node-as, Child, arithmetic-range, boolean-range}
 use Rattle.value.proofs.Machine.{back, read-back}
-use Rattle.run.specs.Ready.{Ready, Of}
+use Rattle.run.specs.Ready.{Within, Ready, Of}
 
 -- node n is as its kind says, with its words as the table has them
 abbrev pub As : Kind → List ℕ → ℕ → Type 0
 As kind t n = NodeAs t n kind (field t n 1) (field t n 2) (field t n 3)
 
 module _ {t : List ℕ} {n : ℕ} {c : Class} (ready : Ready t n c) where
-  pub word-inside : (i : ℕ) → i < 4 → 4 * n + i < length t
-  word-inside i h = omega (arith, ready .inside)
+  pub word-inside : (i : ℕ) → i < 4 → Within t n i
+  word-inside i h =
+      let f = accepted-facts t (ready .accepted) in
+      record { inside = omega (arith, ready .inside); short = omega (arith, f .whole, f .few) }
 
   -- node n, whose kind is read as k
   pub node : {k : ℕ} → k ≡ field t n 0 → (kind : Kind) → kindOf k ≡ kind → As kind t n
@@ -47,6 +51,14 @@ module _ {t : List ℕ} {n k : ℕ} where
 
   pub boolean-kind : Ready t n boolean → k ≡ field t n 0 → (16 ≤ k) × (k ≤ 22)
   boolean-kind ready e = rw e (boolean-range (field t n 0) (ready .class))
+
+-- the one boolean kind that is neither a truth, a comparison nor a negation
+pub last-boolean : (k : ℕ) → (16 ≤ k) × (k ≤ 22) → (leb 18 k && leb k 20) ≡ false → (k ≡ 16 → ⊥) → (k ≡ 17 → ⊥) → (k ≡ 21 → ⊥) → k ≡ 22
+last-boolean k class e a b c = by (leb 18 k) refl
+  where
+    by : (low : Bool) → leb 18 k ≡ low → k ≡ 22
+    by true h = let high = leb-false k 20 (rw h at e) in omega (arith, class .0, class .1, high, c)
+    by false h = omega (arith, class .0, leb-false 18 k h, a, b)
 
 -- a statement node of a known kind
 pub of-kind : {t : List ℕ} {n : ℕ} {k : Kind} → Of t n k → As k t n

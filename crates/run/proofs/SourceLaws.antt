@@ -2,7 +2,7 @@
 use mathlib.Core.Path.{_≡_, refl, sym, ap, subst, _∙_}
 use mathlib.Core.Option.{Option, none, some}
 use mathlib.Core.List.{List}
-use Prim.Native.Nat.{ℕ, _+_, _-_, _≤_}
+use Prim.Native.Nat.{ℕ, zero, suc, _+_, _-_, _<_, _≤_}
 use native.Mathlib.Omega.{arith}
 use lib.IntN.{ℤ}
 use contract.Lifetimes.{Lfts}
@@ -13,10 +13,11 @@ use Rattle.rules.specs.Expression.{Store}
 use Rattle.rules.specs.While.{Stm, Meaning, Evaluates, count, Unfinished, Outcome, done, stop, exec}
 use lib.ListN.{length}
 use borrow.Author.Tests.{eq-eqb, ne-eqb}
-use Rattle.rules.specs.Table.{meaning, program, tableRefusal}
+use Rattle.rules.specs.Table.{root, treeAt, stmOf, meaning, program, tableRefusal}
 use Rattle.rules.specs.Refusal.{refusal, refuse}
 use Rattle.rules.proofs.ListLaws.{some-orElse, none-orElse}
 use Rattle.run.specs.StoreRefusal.{storeRefusal}
+use Rattle.run.specs.Source.{outcome, Ran}
 use Rattle.rules.specs.Answer.{Ended, ended, unlessRefused}
 use Rattle.rules.specs.declared.Refusal.{Refusal}
 use Rattle.rules.specs.declared.SourceRun.{SourceRun}
@@ -76,6 +77,25 @@ module _ (t : List ℕ) (σ : Store) (n : ℕ) where
   pub source-runs : tableRefusal t ≡ none → length σ ≡ 32 → sourceRun t σ n ≡ sourceEnd n (exec (meaning t) (program t) n σ)
   unfolding sourceRun sourceRefusal storeRefusal refuse unlessRefused
   source-runs e h = rw (none-orElse (tableRefusal t) (storeRefusal σ) e, eq-eqb (length σ) 32 h)
+
+  -- by what the run of the root left of its credit
+  module _ (e : tableRefusal t ≡ none) (h : length σ ≡ 32) where
+    ran-ends : {r : ℕ} {σ₁ : Store} → Ran t (root t) (n + 1) σ r σ₁ → sourceRun t σ n ≡ sourceEnd n (outcome r σ₁)
+    unfolding program
+    ran-ends ran =
+        let fuel : n + 1 - 1 ≡ n = omega arith in
+        source-runs e h ∙ ap (sourceEnd n) (ap (λ f. exec (meaning t) (stmOf (treeAt t (root t))) f σ) (sym fuel) ∙ sym (ran .is))
+
+    pub source-spent : {σ₁ : Store} → Ran t (root t) (n + 1) σ 0 σ₁ → sourceRun t σ n ≡ ended (SourceRun.OutOfFuel n) σ₁
+    unfolding sourceEnd outcome
+    source-spent ran = ran-ends ran
+
+    pub source-finished : {σ₁ : Store} (r : ℕ) → 0 < r → Ran t (root t) (n + 1) σ r σ₁ → sourceRun t σ n ≡ ended (SourceRun.Finished (n - (r - 1))) σ₁
+    unfolding sourceEnd outcome
+    source-finished zero k ran = absurd (omega arith)
+    source-finished {σ₁} (suc left) k ran =
+        let same : left ≡ suc left - 1 = omega arith in
+        ran-ends ran ∙ ap (λ m. ended (SourceRun.Finished (n - m)) σ₁) same
 
 -- two answers that meet the contract, as the check states it, are one, and so are the stores after them
 pub run-source-determined : (κs : Lfts 2) (a : Dens κs ps) (x y : SourceRun) (s t : AtExit (endedOf 2 ps r) κs)

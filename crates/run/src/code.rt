@@ -207,16 +207,16 @@ fn after(c: &[u32], k: usize) -> Spot
 // ---- the run
 
 // One step of Fig. 1, by instruction k.
-fn step(t: &[u32], c: &[u32], k: usize, store: &mut [i32; 32]) -> Spot
-    requires { ⌜ Stands (now t) (now c) k (now store) ⌝ }
-    ensures { λ r. ⌜ Stepped (now (t .entry)) (now (c .entry)) k (now (store .entry)) (r .label) (r .place) (now (store .exit)) ⌝ }
+fn step(t: &&[u32], c: &[u32], k: usize, store: &mut [i32; 32]) -> Spot
+    requires { ⌜ Stands (now (now t)) (now c) k (now store) ⌝ }
+    ensures { λ r. ⌜ Stepped (now (now (t .entry))) (now (c .entry)) k (now (store .entry)) (r .label) (r .place) (now (store .exit)) ⌝ }
 {
     let o = word(c, k, 1);
     let x = word(c, k, 2) as usize;
     let y = word(c, k, 3);
     match o {
         1 => {
-            let v = evaluate::arith(t, store, y as usize);
+            let v = evaluate::value_of(t, store, y as usize);
             store[x] = v;
             after(c, k)
         }
@@ -232,9 +232,9 @@ fn step(t: &[u32], c: &[u32], k: usize, store: &mut [i32; 32]) -> Spot
 }
 
 // The run from a label: one unit of fuel a turn, the finish tested before the fuel.
-fn run_from(t: &[u32], c: &[u32], start: u32, store: &mut [i32; 32], fuel: u32) -> CodeRun
-    requires { ⌜ Admitted (now t) (now c) (now store) ⌝ }
-    ensures { λ r. ⌜ ended r (now (store .exit)) ≡ codeEnd fuel (run (meaning (now (t .entry))) (codeOf (now (c .entry))) fuel start (now (store .entry))) ⌝ }
+fn run_from(t: &&[u32], c: &[u32], start: u32, store: &mut [i32; 32], fuel: u32) -> CodeRun
+    requires { ⌜ Admitted (now (now t)) (now c) (now store) ⌝ }
+    ensures { λ r. ⌜ ended r (now (store .exit)) ≡ codeEnd fuel (run (meaning (now (now (t .entry)))) (codeOf (now (c .entry))) fuel start (now (store .entry))) ⌝ }
 {
     let count = c.len() / 4;
     let mut label = start;
@@ -257,8 +257,9 @@ fn run_lent(t: &[u32], c: &[u32], start: u32, store: &mut [i32], fuel: u32) -> C
     requires { ⌜ Admitted (now t) (now c) (now store) ⌝ }
     ensures { λ r. ⌜ ended r (now (store .exit)) ≡ codeEnd fuel (run (meaning (now (t .entry))) (codeOf (now (c .entry))) fuel start (now (store .entry))) ⌝ }
 {
+    let words = t;
     let mut values = taken(store);
-    let ran = run_from(t, c, start, &mut values, fuel);
+    let ran = run_from(&words, c, start, &mut values, fuel);
     put_back(store, &values);
     ran
 }

@@ -1,40 +1,46 @@
 // The evaluators: the value or the truth of an expression node of an accepted table, on a store.
+// They take the table by a reference to its slice: a call then passes one pointer on and copies no pair of pointer and length.
 ghost use mathlib.Core.Path.{_≡_};
-ghost use Prim.Native.Nat.{_+_, _*_, _<_, _≤_};
-ghost use lib.ListN.{length};
+ghost use Prim.Native.Nat.{_≤_};
 ghost use Rattle.rules.specs.Expression.{apply as applied, holds as held};
 ghost use Rattle.rules.specs.Table.{field, meaning, arithmetic, boolean as booleans};
 ghost use Rattle.rules.proofs.TableLaws.{operatorOf, relationOf};
-ghost use Rattle.run.specs.Ready.{Ready, Leaf};
+ghost use Rattle.run.specs.Ready.{Within, Ready, Leaf};
 
 // Word i of node n.
-pub fn word(t: &[u32], n: usize, i: usize) -> u32
-    requires { ⌜ 4 * n + i < length (now t) ⌝ }
-    ensures { λ r. ⌜ r ≡ field (now (t .entry)) n i ⌝ }
+pub fn word(t: &&[u32], n: usize, i: usize) -> u32
+    requires { ⌜ Within (now (now t)) n i ⌝ }
+    ensures { λ r. ⌜ r ≡ field (now (now (t .entry))) n i ⌝ }
 {
     t[4 * n + i]
 }
 
 // The same, as a node or a variable.
-pub fn place(t: &[u32], n: usize, i: usize) -> usize
-    requires { ⌜ 4 * n + i < length (now t) ⌝ }
-    ensures { λ r. ⌜ r ≡ field (now (t .entry)) n i ⌝ }
+pub fn place(t: &&[u32], n: usize, i: usize) -> usize
+    requires { ⌜ Within (now (now t)) n i ⌝ }
+    ensures { λ r. ⌜ r ≡ field (now (now (t .entry))) n i ⌝ }
 {
     word(t, n, i) as usize
 }
 
-// The operation of kind k, 3 to 7.
+// The operation of kind k, 3 to 7. By tests: a jump through a table is foretold worse.
 fn apply(k: u32, a: i32, b: i32) -> i32
     requires { ⌜ (3 ≤ k) × (k ≤ 7) ⌝ }
     ensures { λ r. ⌜ r ≡ applied (operatorOf k) a b ⌝ }
 {
-    match k {
-        3 => value::add(a, b),
-        4 => value::sub(a, b),
-        5 => value::mul(a, b),
-        6 => value::div(a, b),
-        _ => value::rem(a, b),
+    if k <= 4 {
+        if k == 3 {
+            return value::add(a, b);
+        }
+        return value::sub(a, b);
     }
+    if k == 5 {
+        return value::mul(a, b);
+    }
+    if k == 6 {
+        return value::div(a, b);
+    }
+    value::rem(a, b)
 }
 
 // The comparison of kind k, 18 to 20.
@@ -50,9 +56,9 @@ fn compare(k: u32, a: i32, b: i32) -> bool
 }
 
 // The value of the number or variable n, of kind k.
-fn leaf(t: &[u32], s: &[i32; 32], n: usize, k: u32) -> i32
-    requires { ⌜ Leaf (now t) n k ⌝ }
-    ensures { λ r. ⌜ r ≡ meaning (now (t .entry)) .arith n (now (s .entry)) ⌝ }
+fn leaf(t: &&[u32], s: &[i32; 32], n: usize, k: u32) -> i32
+    requires { ⌜ Leaf (now (now t)) n k ⌝ }
+    ensures { λ r. ⌜ r ≡ meaning (now (now (t .entry))) .arith n (now (s .entry)) ⌝ }
 {
     if k == 1 {
         return value::of_word(word(t, n, 1));
@@ -62,9 +68,9 @@ fn leaf(t: &[u32], s: &[i32; 32], n: usize, k: u32) -> i32
 }
 
 // The value of the arithmetic node n.
-pub fn arith(t: &[u32], s: &[i32; 32], n: usize) -> i32
-    requires { ⌜ Ready (now t) n arithmetic ⌝ }
-    ensures { λ r. ⌜ r ≡ meaning (now (t .entry)) .arith n (now (s .entry)) ⌝ }
+fn arith(t: &&[u32], s: &[i32; 32], n: usize) -> i32
+    requires { ⌜ Ready (now (now t)) n arithmetic ⌝ }
+    ensures { λ r. ⌜ r ≡ meaning (now (now (t .entry))) .arith n (now (s .entry)) ⌝ }
 {
     let k = word(t, n, 0);
     if k <= 2 {
@@ -82,9 +88,9 @@ pub fn arith(t: &[u32], s: &[i32; 32], n: usize) -> i32
 }
 
 // The same. Most operands are numbers and variables, which are read without a call of `arith`.
-fn operand(t: &[u32], s: &[i32; 32], n: usize) -> i32
-    requires { ⌜ Ready (now t) n arithmetic ⌝ }
-    ensures { λ r. ⌜ r ≡ meaning (now (t .entry)) .arith n (now (s .entry)) ⌝ }
+fn operand(t: &&[u32], s: &[i32; 32], n: usize) -> i32
+    requires { ⌜ Ready (now (now t)) n arithmetic ⌝ }
+    ensures { λ r. ⌜ r ≡ meaning (now (now (t .entry))) .arith n (now (s .entry)) ⌝ }
 {
     let k = word(t, n, 0);
     if k <= 2 {
@@ -94,25 +100,47 @@ fn operand(t: &[u32], s: &[i32; 32], n: usize) -> i32
     }
 }
 
-// The truth of the boolean node n.
-pub fn boolean(t: &[u32], s: &[i32; 32], n: usize) -> bool
-    requires { ⌜ Ready (now t) n booleans ⌝ }
-    ensures { λ r. ⌜ r ≡ meaning (now (t .entry)) .holds n (now (s .entry)) ⌝ }
+// The truth of the boolean node n. Most are comparisons, so they come first.
+pub fn boolean(t: &&[u32], s: &[i32; 32], n: usize) -> bool
+    requires { ⌜ Ready (now (now t)) n booleans ⌝ }
+    ensures { λ r. ⌜ r ≡ meaning (now (now (t .entry))) .holds n (now (s .entry)) ⌝ }
 {
     let k = word(t, n, 0);
+    if (18 <= k) & (k <= 20) {
+        let a = operand(t, s, place(t, n, 1));
+        let b = operand(t, s, place(t, n, 2));
+        return compare(k, a, b);
+    }
     match k {
         16 => true,
         17 => false,
         21 => !boolean(t, s, place(t, n, 1)),
-        22 => {
+        _ => {
             let a = boolean(t, s, place(t, n, 1));
             let b = boolean(t, s, place(t, n, 2));
             a & b
         }
-        _ => {
-            let a = operand(t, s, place(t, n, 1));
-            let b = operand(t, s, place(t, n, 2));
-            compare(k, a, b)
-        }
     }
+}
+
+// The same as `arith`, for a whole expression: most are a leaf, or an operation on two, and need no call.
+pub fn value_of(t: &&[u32], s: &[i32; 32], n: usize) -> i32
+    requires { ⌜ Ready (now (now t)) n arithmetic ⌝ }
+    ensures { λ r. ⌜ r ≡ meaning (now (now (t .entry))) .arith n (now (s .entry)) ⌝ }
+{
+    let k = word(t, n, 0);
+    if k <= 2 {
+        return leaf(t, s, n, k);
+    }
+    if k == 8 {
+        return arith(t, s, n);
+    }
+    let p = place(t, n, 1);
+    let q = place(t, n, 2);
+    let first = word(t, p, 0);
+    let second = word(t, q, 0);
+    if (first <= 2) & (second <= 2) {
+        return apply(k, leaf(t, s, p, first), leaf(t, s, q, second));
+    }
+    arith(t, s, n)
 }

@@ -1,7 +1,7 @@
 // The source run: the statements of an accepted table, on a store, within fuel.
-use crate::evaluate::arith;
 use crate::evaluate::boolean;
 use crate::evaluate::place;
+use crate::evaluate::value_of;
 use crate::evaluate::word;
 use crate::store::put_back;
 use crate::store::taken;
@@ -9,101 +9,90 @@ use rules::Checked;
 use rules::Refusal;
 use rules::SourceRun;
 ghost use mathlib.Core.Path.{_≡_};
+ghost use Prim.Native.Nat.{_-_, _<_};
 ghost use Rattle.rules.specs.Table.{Kind, statement};
 ghost use Rattle.rules.specs.Answer.{ended};
 ghost use Rattle.run.specs.Ready.{Ready, Of};
-ghost use Rattle.run.specs.Source.{Ran, paid};
+ghost use Rattle.run.specs.Source.{Ran};
 ghost use Rattle.run.specs.SourceRun.{sourceRun};
 
-// What a statement leaves of its fuel, or that the fuel was spent before its end.
-pub enum Left {
-    Units(u32),
-    Spent,
-}
+// Credit is one more than the fuel that is left. None is left where the fuel was spent before the end.
 
-// One unit that leaves the store alone.
-fn pay(fuel: u32) -> Left
-    ensures { λ r. ⌜ r ≡ paid fuel ⌝ }
+// One unit, where there is one.
+fn pay(credit: u64) -> u64
+    ensures { λ r. ⌜ r ≡ credit - 1 ⌝ }
 {
-    if fuel == 0 {
-        Left::Spent
-    } else {
-        Left::Units(fuel - 1)
-    }
+    if credit == 0 { 0 } else { credit - 1 }
 }
 
 // The assign of node n.
-fn assign(t: &[u32], s: &mut [i32; 32], n: usize, fuel: u32) -> Left
-    requires { ⌜ Of (now t) n Kind.assign ⌝ }
-    ensures { λ r. ⌜ Ran (now (t .entry)) n fuel (now (s .entry)) r (now (s .exit)) ⌝ }
+fn assign(t: &&[u32], s: &mut [i32; 32], n: usize, credit: u64) -> u64
+    requires { ⌜ Of (now (now t)) n Kind.assign × (0 < credit) ⌝ }
+    ensures { λ r. ⌜ Ran (now (now (t .entry))) n credit (now (s .entry)) r (now (s .exit)) ⌝ }
 {
-    if fuel == 0 {
-        return Left::Spent;
+    if credit == 1 {
+        return 0;
     }
     let x = place(t, n, 1);
-    s[x] = arith(t, s, place(t, n, 2));
-    Left::Units(fuel - 1)
+    s[x] = value_of(t, s, place(t, n, 2));
+    credit - 1
 }
 
 // The statement of node n.
-pub fn exec(t: &[u32], s: &mut [i32; 32], n: usize, fuel: u32) -> Left
-    requires { ⌜ Ready (now t) n statement ⌝ }
-    ensures { λ r. ⌜ Ran (now (t .entry)) n fuel (now (s .entry)) r (now (s .exit)) ⌝ }
+fn exec(t: &&[u32], s: &mut [i32; 32], n: usize, credit: u64) -> u64
+    requires { ⌜ Ready (now (now t)) n statement × (0 < credit) ⌝ }
+    ensures { λ r. ⌜ Ran (now (now (t .entry))) n credit (now (s .entry)) r (now (s .exit)) ⌝ }
 {
     let k = word(t, n, 0);
     match k {
-        32 => Left::Units(fuel),
-        33 => assign(t, s, n, fuel),
-        34 => match exec(t, s, place(t, n, 1), fuel) {
-            Left::Units(left) => exec(t, s, place(t, n, 2), left),
-            Left::Spent => Left::Spent,
-        },
-        35 => branch(t, s, n, fuel),
-        _ => repeat(t, s, n, fuel),
+        32 => credit,
+        33 => assign(t, s, n, credit),
+        34 => {
+            let left = exec(t, s, place(t, n, 1), credit);
+            if left == 0 {
+                return 0;
+            }
+            exec(t, s, place(t, n, 2), left)
+        }
+        35 => branch(t, s, n, credit),
+        _ => repeat(t, s, n, credit),
     }
 }
 
 // The if of node n.
-fn branch(t: &[u32], s: &mut [i32; 32], n: usize, fuel: u32) -> Left
-    requires { ⌜ Of (now t) n Kind.if ⌝ }
-    ensures { λ r. ⌜ Ran (now (t .entry)) n fuel (now (s .entry)) r (now (s .exit)) ⌝ }
+fn branch(t: &&[u32], s: &mut [i32; 32], n: usize, credit: u64) -> u64
+    requires { ⌜ Of (now (now t)) n Kind.if × (0 < credit) ⌝ }
+    ensures { λ r. ⌜ Ran (now (now (t .entry))) n credit (now (s .entry)) r (now (s .exit)) ⌝ }
 {
-    if fuel == 0 {
-        return Left::Spent;
+    if credit == 1 {
+        return 0;
     }
     if boolean(t, s, place(t, n, 1)) {
-        match exec(t, s, place(t, n, 2), fuel - 1) {
-            Left::Units(left) => pay(left),
-            Left::Spent => Left::Spent,
-        }
+        pay(exec(t, s, place(t, n, 2), credit - 1))
     } else {
-        exec(t, s, place(t, n, 3), fuel - 1)
+        exec(t, s, place(t, n, 3), credit - 1)
     }
 }
 
 // The while of node n: a turn of the loop is a test, and a pass where it holds.
-fn repeat(t: &[u32], s: &mut [i32; 32], n: usize, fuel: u32) -> Left
-    requires { ⌜ Of (now t) n Kind.while ⌝ }
-    ensures { λ r. ⌜ Ran (now (t .entry)) n fuel (now (s .entry)) r (now (s .exit)) ⌝ }
+fn repeat(t: &&[u32], s: &mut [i32; 32], n: usize, credit: u64) -> u64
+    requires { ⌜ Of (now (now t)) n Kind.while × (0 < credit) ⌝ }
+    ensures { λ r. ⌜ Ran (now (now (t .entry))) n credit (now (s .entry)) r (now (s .exit)) ⌝ }
 {
     let b = place(t, n, 1);
     let body = place(t, n, 2);
-    let mut left = fuel;
-    while 0 < left {
+    let mut left = credit;
+    while 1 < left {
         if !boolean(t, s, b) {
-            return Left::Units(left - 1);
+            return left - 1;
         }
-        match exec(t, s, body, left - 1) {
-            Left::Units(more) => {
-                if more == 0 {
-                    return Left::Spent;
-                }
-                left = more - 1;
-            }
-            Left::Spent => return Left::Spent,
+        let more = exec(t, s, body, left - 1);
+        if more <= 1 {
+            return 0;
         }
+        left = more - 1;
     }
-    Left::Spent
+    0
 }
 
 // Runs the statement of the table's root on the store, within fuel.
@@ -121,11 +110,12 @@ pub fn run_source(table: &[u32], store: &mut [i32], fuel: u32) -> SourceRun
         });
     }
     let root = table.len() / 4 - 1;
+    let words = table;
     let mut values = taken(store);
-    let left = exec(table, &mut values, root, fuel);
+    let left = exec(&words, &mut values, root, (fuel as u64) + 1);
     put_back(store, &values);
-    match left {
-        Left::Units(more) => SourceRun::Finished(fuel - more),
-        Left::Spent => SourceRun::OutOfFuel(fuel),
+    if left == 0 {
+        return SourceRun::OutOfFuel(fuel);
     }
+    SourceRun::Finished(fuel - ((left - 1) as u32))
 }

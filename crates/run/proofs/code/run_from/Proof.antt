@@ -14,16 +14,16 @@ use Rattle.run.proofs.code.find.Reads as find-reads
 use Rattle.run.proofs.code.step.Reads as step-reads
 
 abbrev Inv-loop : tie.InvT-loop
-Inv-loop t c start store₀ fuel count label₀ place₀ steps₀ store label place steps = Along t c start store₀ fuel label place steps store
+Inv-loop t c start store₀ fuel count label₀ place₀ steps₀ store label place steps = Along (t .now) c start store₀ fuel label place steps store
 
 abbrev μ-loop : tie.MeasureT-loop
 μ-loop t c start store₀ fuel count label₀ place₀ steps₀ store label place steps = fuel - steps
 
 find-requires : tie.Need-find-requires Inv-loop μ-loop
-find-requires c κs = code-facts _ _ (c .before .before .pre .code) .rising
+find-requires c κs = code-facts _ _ (c .before .pre .code) .rising
 
 loop-holds : tie.Need-loop-holds Inv-loop μ-loop
-loop-holds c = begun (c .before .before .before .pre) (c .find .ensures)
+loop-holds c = begun (c .before .before .pre) (c .find .ensures)
 
 returns : tie.Need-returns Inv-loop μ-loop
 returns c = without-fuel (c .before .before .loop .inv) (c .before .loop-test .taken) (c .if1 .taken)

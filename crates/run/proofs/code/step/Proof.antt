@@ -10,9 +10,9 @@ use Rattle.run.proofs.code.step.Tie as tie
 
 -- where the three words are read
 abbrev start : tie.After-word3 → tie.Start
-start w = w .before .before .before .before .before
+start w = w .before .before .before .before
 
-stands : (w : tie.After-word3) → Stands (start w .args .t .now) (start w .args .c .now) (start w .args .k) (start w .args .store .now)
+stands : (w : tie.After-word3) → Stands (start w .args .t .now .now) (start w .args .c .now) (start w .args .k) (start w .args .store .now)
 stands w = start w .pre
 
 read : (w : tie.After-word3) → Read (start w .args .c .now) (start w .args .k) (w .before .before .word .result) (w .before .word2 .result) (w .word3 .result)
@@ -30,11 +30,11 @@ cast-x c = search needs
 word-requires-3 : tie.Need-word-requires-3
 word-requires-3 c κs = search needs
 
-cast-arith : tie.Need-cast-arith
-cast-arith c = search needs
+cast-value-of : tie.Need-cast-value-of
+cast-value-of c = search needs
 
-arith-requires : tie.Need-arith-requires
-arith-requires c κs = let w = c .before .before in can-assign (stands w) (read w) (c .before .match .keys1) .1
+value-of-requires : tie.Need-value-of-requires
+value-of-requires c κs = let w = c .before .before in can-assign (stands w) (read w) (c .before .match .keys1) .1
 
 mul-v : tie.Need-mul-v
 mul-v c = search needs
@@ -65,7 +65,7 @@ returns : tie.Need-returns
 returns c =
     let w = c .before .before .before .before in
     assigned (stands w) (read w) (c .before .before .before .match .keys1)
-    (read-back (c .before .arith .result) (c .before .arith .ok) ∙ c .before .arith .ensures) (c .after .ensures)
+    (read-back (c .before .value-of .result) (c .before .value-of .ok) ∙ c .before .value-of .ensures) (c .after .ensures)
 
 returns-2 : tie.Need-returns-2
 returns-2 c = let w = c .before .before in jumped (stands w) (read w) (c .before .match .keys2) (c .jump .ensures)
@@ -88,8 +88,8 @@ step-spec =
     word-requires-2
     cast-x
     word-requires-3
-    cast-arith
-    arith-requires
+    cast-value-of
+    value-of-requires
     mul-v
     element-set-from-v
     after-requires

@@ -5,16 +5,18 @@ use mathlib.Core.Bool.{true, false, not, _&&_}
 use Prim.Native.Nat.{ℕ, _+_, _*_, _<_, _≤_}
 use native.Mathlib.Omega.{arith as linear}
 use lib.Dec.{lit<}
+use borrow.Author.Tests.{leb-true}
 use borrow.Fn.Kinds.{In}
 use borrow.Fn.PlainCycle.{Measures, is, falls, and}
 use Rattle.rules.specs.Lists.{fetch}
 use Rattle.rules.specs.Expression.{apply, holds}
 use Rattle.rules.specs.Table.{Kind, choose, binary, truth, compare, negation, both, arithmetic, boolean as booleans, kindOf, rowOf}
+use Rattle.rules.proofs.ListLaws.{and-true}
 use Rattle.rules.proofs.TableLaws.{operatorOf, relationOf, binary-kind, compare-kind}
 use Rattle.rules.proofs.MeaningLaws as means
 use Rattle.value.proofs.Machine.{read-back}
 use Rattle.run.specs.Ready.{Ready}
-use Rattle.run.proofs.Nodes.{As, word-inside, node, down, arith-answer, boolean-answer, arithmetic-kind, boolean-kind}
+use Rattle.run.proofs.Nodes.{As, word-inside, node, down, arith-answer, boolean-answer, arithmetic-kind, boolean-kind, last-boolean}
 use Rattle.run.proofs.evaluate.arith.Reads as arith
 use Rattle.run.proofs.evaluate.arith.Kinds as arith-kinds
 use Rattle.run.proofs.evaluate.+arith+boolean+operand.Lts-arith as arith-lts
@@ -32,34 +34,34 @@ use Rattle.run.proofs.evaluate.word.Reads as word-reads
 use Rattle.run.proofs.evaluate.+arith+boolean+operand.{statement}
 use Rattle.run.proofs.evaluate.+arith+boolean+operand.Tie.{close}
 
-abbrev μ-arith : Measures 2 arith-kinds.ps ℕ
+abbrev μ-arith : Measures 3 arith-kinds.ps ℕ
 μ-arith κs a = 2 * a .1 .1 .0
 
-abbrev μ-boolean : Measures 2 boolean-kinds.ps ℕ
+abbrev μ-boolean : Measures 3 boolean-kinds.ps ℕ
 μ-boolean κs a = 2 * a .1 .1 .0 + 1
 
-abbrev μ-operand : Measures 2 operand-kinds.ps ℕ
+abbrev μ-operand : Measures 3 operand-kinds.ps ℕ
 μ-operand κs a = 2 * a .1 .1 .0 + 1
 
 -- what each is given at the measure m, what a call of it asks below m, and the contracts of what each calls
 module _ (m : ℕ) where
-  abbrev arith-at : In 2 arith-kinds.ps
-  arith-at = and 2 arith-kinds.ps (is 2 arith-kinds.ps μ-arith m) arith.Pre
+  abbrev arith-at : In 3 arith-kinds.ps
+  arith-at = and 3 arith-kinds.ps (is 3 arith-kinds.ps μ-arith m) arith.Pre
 
-  abbrev arith-below : In 2 arith-kinds.ps
-  arith-below = and 2 arith-kinds.ps (falls 2 arith-kinds.ps _<_ μ-arith m) arith.Pre
+  abbrev arith-below : In 3 arith-kinds.ps
+  arith-below = and 3 arith-kinds.ps (falls 3 arith-kinds.ps _<_ μ-arith m) arith.Pre
 
-  abbrev boolean-at : In 2 boolean-kinds.ps
-  boolean-at = and 2 boolean-kinds.ps (is 2 boolean-kinds.ps μ-boolean m) boolean.Pre
+  abbrev boolean-at : In 3 boolean-kinds.ps
+  boolean-at = and 3 boolean-kinds.ps (is 3 boolean-kinds.ps μ-boolean m) boolean.Pre
 
-  abbrev boolean-below : In 2 boolean-kinds.ps
-  boolean-below = and 2 boolean-kinds.ps (falls 2 boolean-kinds.ps _<_ μ-boolean m) boolean.Pre
+  abbrev boolean-below : In 3 boolean-kinds.ps
+  boolean-below = and 3 boolean-kinds.ps (falls 3 boolean-kinds.ps _<_ μ-boolean m) boolean.Pre
 
-  abbrev operand-at : In 2 operand-kinds.ps
-  operand-at = and 2 operand-kinds.ps (is 2 operand-kinds.ps μ-operand m) operand.Pre
+  abbrev operand-at : In 3 operand-kinds.ps
+  operand-at = and 3 operand-kinds.ps (is 3 operand-kinds.ps μ-operand m) operand.Pre
 
-  abbrev operand-below : In 2 operand-kinds.ps
-  operand-below = and 2 operand-kinds.ps (falls 2 operand-kinds.ps _<_ μ-operand m) operand.Pre
+  abbrev operand-below : In 3 operand-kinds.ps
+  operand-below = and 3 operand-kinds.ps (falls 3 operand-kinds.ps _<_ μ-operand m) operand.Pre
 
   abbrev arith-calls : arith-lts.Claims
   arith-calls = (
@@ -83,12 +85,12 @@ module _ (m : ℕ) where
     word-reads.Learnt,
     place-reads.Asked,
     place-reads.Learnt,
-    boolean-below,
-    boolean.Post,
     operand-below,
     operand.Post,
     compare-reads.Asked,
     compare-reads.Learnt,
+    boolean-below,
+    boolean.Post,
   )
 
   abbrev operand-calls : operand-lts.Claims
@@ -98,14 +100,14 @@ module _ (m : ℕ) where
 
 module _ (m : ℕ) where
   operand-word-requires : operand-lts.Need-word-requires (operand-calls m) (operand-at m) operand.Post
-  operand-word-requires c κs = word-inside (c .before .pre .1) _ (lit< tt)
+  operand-word-requires c κs = word-inside (c .pre .1) _ (lit< tt)
 
   operand-leaf-requires : operand-lts.Need-leaf-requires (operand-calls m) (operand-at m) operand.Post
   operand-leaf-requires c κs =
-      record { ready = c .before .before .before .pre .1; kind = c .before .word .ensures; low = c .if1 .taken }
+      record { ready = c .before .before .pre .1; kind = c .before .word .ensures; low = c .if1 .taken }
 
   operand-arith-requires : operand-lts.Need-arith-requires (operand-calls m) (operand-at m) operand.Post
-  operand-arith-requires c κs = let s = c .before .before .before in (omega (linear, s .pre .0), s .pre .1)
+  operand-arith-requires c κs = let s = c .before .before in (omega (linear, s .pre .0), s .pre .1)
 
   operand-returns : operand-lts.Need-returns (operand-calls m) (operand-at m) operand.Post
   operand-returns c = read-back (c .leaf .result) (c .leaf .ok) ∙ c .leaf .ensures
@@ -122,13 +124,13 @@ module _ (m : ℕ) where
 
   -- its node is as a kind says
   abbrev Is₁ : Kinded₁ → Kind → Type 0
-  Is₁ w kind = As kind (w .before .before .args .t .now) (w .before .before .args .n)
+  Is₁ w kind = As kind (w .before .args .t .now .now) (w .before .args .n)
 
-  ready₁ : (w : Kinded₁) → Ready (w .before .before .args .t .now) (w .before .before .args .n) arithmetic
-  ready₁ w = w .before .before .pre .1
+  ready₁ : (w : Kinded₁) → Ready (w .before .args .t .now .now) (w .before .args .n) arithmetic
+  ready₁ w = w .before .pre .1
 
-  falls₁ : (w : Kinded₁) → 2 * w .before .before .args .n ≤ m
-  falls₁ w = omega (linear, w .before .before .pre .0)
+  falls₁ : (w : Kinded₁) → 2 * w .before .args .n ≤ m
+  falls₁ w = omega (linear, w .before .pre .0)
 
   a-choose : (c : arith-lts.Then2 (arith-calls m) (arith-at m) arith.Post) → Is₁ (c .before .before) choose
   unfolding kindOf fetch
@@ -146,7 +148,7 @@ module _ (m : ℕ) where
       node (ready₁ w) (w .word .ensures) _ (binary-kind (w .word .result) (operator-kind c .0) (operator-kind c .1))
 
   arith-word-requires : arith-lts.Need-word-requires (arith-calls m) (arith-at m) arith.Post
-  arith-word-requires c κs = word-inside (c .before .pre .1) _ (lit< tt)
+  arith-word-requires c κs = word-inside (c .pre .1) _ (lit< tt)
 
   arith-leaf-requires : arith-lts.Need-leaf-requires (arith-calls m) (arith-at m) arith.Post
   arith-leaf-requires c κs =
@@ -236,114 +238,116 @@ module _ (m : ℕ) where
 
   -- its node is as a kind says
   abbrev Is₂ : Kinded₂ → Kind → Type 0
-  Is₂ w kind = As kind (w .before .before .args .t .now) (w .before .before .args .n)
+  Is₂ w kind = As kind (w .before .args .t .now .now) (w .before .args .n)
 
-  ready₂ : (w : Kinded₂) → Ready (w .before .before .args .t .now) (w .before .before .args .n) booleans
-  ready₂ w = w .before .before .pre .1
+  ready₂ : (w : Kinded₂) → Ready (w .before .args .t .now .now) (w .before .args .n) booleans
+  ready₂ w = w .before .pre .1
 
-  falls₂ : (w : Kinded₂) → 2 * w .before .before .args .n ≤ m
-  falls₂ w = omega (linear, w .before .before .pre .0)
+  falls₂ : (w : Kinded₂) → 2 * w .before .args .n ≤ m
+  falls₂ w = omega (linear, w .before .pre .0)
 
   by-kind : (w : Kinded₂) (kind : Kind) → kindOf (w .word .result) ≡ kind → Is₂ w kind
   by-kind w = node (ready₂ w) (w .word .ensures)
 
-  a-negation : (c : boolean-lts.At-match-keys3 (boolean-calls m) (boolean-at m) boolean.Post) → Is₂ (c .before) negation
-  unfolding kindOf fetch
-  a-negation c = by-kind (c .before) negation (ap kindOf (c .match .keys3))
+  -- past the first test it is a comparison
+  relation-kind : (c : boolean-lts.Then1 (boolean-calls m) (boolean-at m) boolean.Post) → (let k = c .before .word .result in (18 ≤ k) × (k ≤ 20))
+  relation-kind c = let within = and-true _ _ (c .if1 .taken) in (leb-true _ _ (within .0), leb-true _ _ (within .1))
 
-  a-both : (c : boolean-lts.At-match-keys4 (boolean-calls m) (boolean-at m) boolean.Post) → Is₂ (c .before) both
-  unfolding kindOf fetch
-  a-both c = by-kind (c .before) both (ap kindOf (c .match .keys4))
-
-  relation-kind : (c : boolean-lts.At-match-rest (boolean-calls m) (boolean-at m) boolean.Post) → (let k = c .before .word .result in (18 ≤ k) × (k ≤ 20))
-  relation-kind c =
-      let k = c .before .word in
-      let kind : (16 ≤ k .result) × (k .result ≤ 22) = boolean-kind (ready₂ (c .before)) (k .ensures) in
-      (omega linear, omega linear)
-
-  a-compare : (c : boolean-lts.At-match-rest (boolean-calls m) (boolean-at m) boolean.Post) → (let w = c .before in Is₂ w (compare (relationOf (w .word .result))))
+  a-compare : (c : boolean-lts.Then1 (boolean-calls m) (boolean-at m) boolean.Post) → (let w = c .before in Is₂ w (compare (relationOf (w .word .result))))
   a-compare c = by-kind (c .before) _ (compare-kind (c .before .word .result) (relation-kind c .0) (relation-kind c .1))
 
+  a-negation : (c : boolean-lts.At-match-keys3 (boolean-calls m) (boolean-at m) boolean.Post) → Is₂ (c .before .before) negation
+  unfolding kindOf fetch
+  a-negation c = by-kind (c .before .before) negation (ap kindOf (c .match .keys3))
+
+  -- the last kind of its class
+  a-both : (c : boolean-lts.At-match-rest (boolean-calls m) (boolean-at m) boolean.Post) → Is₂ (c .before .before) both
+  unfolding kindOf fetch
+  a-both c =
+      let w = c .before .before in
+      let other = c .match .rest in
+      by-kind w both (ap kindOf (last-boolean _ (boolean-kind (ready₂ w) (w .word .ensures)) (c .before .if1 .left) (other .0 .0 .1) (other .0 .1) (other .1)))
+
   boolean-word-requires : boolean-lts.Need-word-requires (boolean-calls m) (boolean-at m) boolean.Post
-  boolean-word-requires c κs = word-inside (c .before .pre .1) _ (lit< tt)
+  boolean-word-requires c κs = word-inside (c .pre .1) _ (lit< tt)
 
   boolean-place-requires : boolean-lts.Need-place-requires (boolean-calls m) (boolean-at m) boolean.Post
   boolean-place-requires c κs = word-inside (ready₂ (c .before)) _ (lit< tt)
-
-  boolean-boolean-requires : boolean-lts.Need-boolean-requires (boolean-calls m) (boolean-at m) boolean.Post
-  unfolding rowOf
-  boolean-boolean-requires c κs =
-      let w = c .before .before in
-      down (ready₂ w) (c .place .ensures) (a-negation (c .before) .first) (falls₂ w)
-
-  boolean-place-requires-2 : boolean-lts.Need-place-requires-2 (boolean-calls m) (boolean-at m) boolean.Post
-  boolean-place-requires-2 c κs = word-inside (ready₂ (c .before)) _ (lit< tt)
-
-  boolean-boolean-requires-2 : boolean-lts.Need-boolean-requires-2 (boolean-calls m) (boolean-at m) boolean.Post
-  unfolding rowOf
-  boolean-boolean-requires-2 c κs =
-      let w = c .before .before in
-      down (ready₂ w) (c .place2 .ensures) (a-both (c .before) .first) (falls₂ w)
-
-  boolean-place-requires-3 : boolean-lts.Need-place-requires-3 (boolean-calls m) (boolean-at m) boolean.Post
-  boolean-place-requires-3 c κs = word-inside (ready₂ (c .before .before .before)) _ (lit< tt)
-
-  boolean-boolean-requires-3 : boolean-lts.Need-boolean-requires-3 (boolean-calls m) (boolean-at m) boolean.Post
-  unfolding rowOf
-  boolean-boolean-requires-3 c κs =
-      let w = c .before .before .before .before in
-      down (ready₂ w) (c .place3 .ensures) (a-both (c .before .before .before) .second) (falls₂ w)
-
-  boolean-place-requires-4 : boolean-lts.Need-place-requires-4 (boolean-calls m) (boolean-at m) boolean.Post
-  boolean-place-requires-4 c κs = word-inside (ready₂ (c .before)) _ (lit< tt)
 
   boolean-operand-requires : boolean-lts.Need-operand-requires (boolean-calls m) (boolean-at m) boolean.Post
   unfolding rowOf
   boolean-operand-requires c κs =
       let w = c .before .before in
-      down (ready₂ w) (c .place4 .ensures) (a-compare (c .before) .first) (falls₂ w)
+      down (ready₂ w) (c .place .ensures) (a-compare (c .before) .first) (falls₂ w)
 
-  boolean-place-requires-5 : boolean-lts.Need-place-requires-5 (boolean-calls m) (boolean-at m) boolean.Post
-  boolean-place-requires-5 c κs = word-inside (ready₂ (c .before .before .before)) _ (lit< tt)
+  boolean-place-requires-2 : boolean-lts.Need-place-requires-2 (boolean-calls m) (boolean-at m) boolean.Post
+  boolean-place-requires-2 c κs = word-inside (ready₂ (c .before .before .before)) _ (lit< tt)
 
   boolean-operand-requires-2 : boolean-lts.Need-operand-requires-2 (boolean-calls m) (boolean-at m) boolean.Post
   unfolding rowOf
   boolean-operand-requires-2 c κs =
       let w = c .before .before .before .before in
-      down (ready₂ w) (c .place5 .ensures) (a-compare (c .before .before .before) .second) (falls₂ w)
+      down (ready₂ w) (c .place2 .ensures) (a-compare (c .before .before .before) .second) (falls₂ w)
 
   boolean-compare-requires : boolean-lts.Need-compare-requires (boolean-calls m) (boolean-at m) boolean.Post
   boolean-compare-requires c κs = relation-kind (c .before .before .before .before)
 
   boolean-returns : boolean-lts.Need-returns (boolean-calls m) (boolean-at m) boolean.Post
-  unfolding kindOf fetch
-  boolean-returns c = sym (means.truth-means _ (by-kind (c .before) (truth true) (ap kindOf (c .match .keys1))))
+  boolean-returns c =
+      let first = c .before .before .before in
+      let ready = ready₂ (first .before .before .before) in
+      let a = arith-answer ready _ (first .operand .ok) (first .operand .ensures) (first .before .place .ensures) in
+      let b = arith-answer ready _ (c .before .operand2 .ok) (c .before .operand2 .ensures) (c .before .before .place2 .ensures) in
+      c .compare .ensures ∙ ap₂ (holds _) a b ∙ sym (means.compare-means _ (a-compare (first .before .before)))
+
+  boolean-place-requires-3 : boolean-lts.Need-place-requires-3 (boolean-calls m) (boolean-at m) boolean.Post
+  boolean-place-requires-3 c κs = word-inside (ready₂ (c .before .before)) _ (lit< tt)
+
+  boolean-boolean-requires : boolean-lts.Need-boolean-requires (boolean-calls m) (boolean-at m) boolean.Post
+  unfolding rowOf
+  boolean-boolean-requires c κs =
+      let w = c .before .before .before in
+      down (ready₂ w) (c .place3 .ensures) (a-negation (c .before) .first) (falls₂ w)
+
+  boolean-place-requires-4 : boolean-lts.Need-place-requires-4 (boolean-calls m) (boolean-at m) boolean.Post
+  boolean-place-requires-4 c κs = word-inside (ready₂ (c .before .before)) _ (lit< tt)
+
+  boolean-boolean-requires-2 : boolean-lts.Need-boolean-requires-2 (boolean-calls m) (boolean-at m) boolean.Post
+  unfolding rowOf
+  boolean-boolean-requires-2 c κs =
+      let w = c .before .before .before in
+      down (ready₂ w) (c .place4 .ensures) (a-both (c .before) .first) (falls₂ w)
+
+  boolean-place-requires-5 : boolean-lts.Need-place-requires-5 (boolean-calls m) (boolean-at m) boolean.Post
+  boolean-place-requires-5 c κs = word-inside (ready₂ (c .before .before .before .before)) _ (lit< tt)
+
+  boolean-boolean-requires-3 : boolean-lts.Need-boolean-requires-3 (boolean-calls m) (boolean-at m) boolean.Post
+  unfolding rowOf
+  boolean-boolean-requires-3 c κs =
+      let w = c .before .before .before .before .before in
+      down (ready₂ w) (c .place5 .ensures) (a-both (c .before .before .before) .second) (falls₂ w)
 
   boolean-returns-2 : boolean-lts.Need-returns-2 (boolean-calls m) (boolean-at m) boolean.Post
   unfolding kindOf fetch
-  boolean-returns-2 c = sym (means.truth-means _ (by-kind (c .before) (truth false) (ap kindOf (c .match .keys2))))
+  boolean-returns-2 c = sym (means.truth-means _ (by-kind (c .before .before) (truth true) (ap kindOf (c .match .keys1))))
 
   boolean-returns-3 : boolean-lts.Need-returns-3 (boolean-calls m) (boolean-at m) boolean.Post
-  boolean-returns-3 c =
-      let ready = ready₂ (c .before .before .before) in
-      let b = boolean-answer ready _ (c .boolean .ensures) (c .before .place .ensures) in
-      ap not b ∙ sym (means.negation-means _ (a-negation (c .before .before)))
+  unfolding kindOf fetch
+  boolean-returns-3 c = sym (means.truth-means _ (by-kind (c .before .before) (truth false) (ap kindOf (c .match .keys2))))
 
   boolean-returns-4 : boolean-lts.Need-returns-4 (boolean-calls m) (boolean-at m) boolean.Post
   boolean-returns-4 c =
-      let first = c .before .before in
-      let ready = ready₂ (first .before .before .before) in
-      let a = boolean-answer ready _ (first .boolean2 .ensures) (first .before .place2 .ensures) in
-      let b = boolean-answer ready _ (c .boolean3 .ensures) (c .before .place3 .ensures) in
-      ap₂ _&&_ a b ∙ sym (means.both-means _ (a-both (first .before .before)))
+      let ready = ready₂ (c .before .before .before .before) in
+      let b = boolean-answer ready _ (c .boolean .ensures) (c .before .place3 .ensures) in
+      ap not b ∙ sym (means.negation-means _ (a-negation (c .before .before)))
 
   boolean-returns-5 : boolean-lts.Need-returns-5 (boolean-calls m) (boolean-at m) boolean.Post
   boolean-returns-5 c =
-      let first = c .before .before .before in
-      let ready = ready₂ (first .before .before .before) in
-      let a = arith-answer ready _ (first .operand .ok) (first .operand .ensures) (first .before .place4 .ensures) in
-      let b = arith-answer ready _ (c .before .operand2 .ok) (c .before .operand2 .ensures) (c .before .before .place5 .ensures) in
-      c .compare .ensures ∙ ap₂ (holds _) a b ∙ sym (means.compare-means _ (a-compare (first .before .before)))
+      let first = c .before .before in
+      let ready = ready₂ (first .before .before .before .before) in
+      let a = boolean-answer ready _ (first .boolean2 .ensures) (first .before .place4 .ensures) in
+      let b = boolean-answer ready _ (c .boolean3 .ensures) (c .before .place5 .ensures) in
+      ap₂ _&&_ a b ∙ sym (means.both-means _ (a-both (first .before .before)))
 
 pub +arith+boolean+operand-spec : {M : Type 1} → statement M
 +arith+boolean+operand-spec = close μ-arith μ-boolean μ-operand (λ m. arith-lts.spec (arith-calls m) (arith-at m) arith.Post
@@ -367,17 +371,17 @@ pub +arith+boolean+operand-spec : {M : Type 1} → statement M
     (λ m. boolean-lts.spec (boolean-calls m) (boolean-at m) boolean.Post
     (boolean-word-requires m)
     (boolean-place-requires m)
-    (boolean-boolean-requires m)
-    (boolean-place-requires-2 m)
-    (boolean-boolean-requires-2 m)
-    (boolean-place-requires-3 m)
-    (boolean-boolean-requires-3 m)
-    (boolean-place-requires-4 m)
     (boolean-operand-requires m)
-    (boolean-place-requires-5 m)
+    (boolean-place-requires-2 m)
     (boolean-operand-requires-2 m)
     (boolean-compare-requires m)
     (boolean-returns m)
+    (boolean-place-requires-3 m)
+    (boolean-boolean-requires m)
+    (boolean-place-requires-4 m)
+    (boolean-boolean-requires-2 m)
+    (boolean-place-requires-5 m)
+    (boolean-boolean-requires-3 m)
     (boolean-returns-2 m)
     (boolean-returns-3 m)
     (boolean-returns-4 m)

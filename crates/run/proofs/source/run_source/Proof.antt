@@ -1,7 +1,7 @@
 -- `run_source` meets its contract: the table's refusals, then the store's, then the run of the root's statement on a copy of the store,
 -- which is put back at the end.
 use mathlib.Core.Path.{_≡_, refl, ap, sym, _∙_}
-use Prim.Native.Nat.{ℕ, _-_, _*_, _<_, _≤_}
+use Prim.Native.Nat.{_+_, _≤_}
 use native.Mathlib.Omega.{arith}
 use borrow.Author.Needs.{needs}
 use lib.ListN.{length}
@@ -10,8 +10,8 @@ use Rattle.rules.specs.Answer.{ended}
 use Rattle.rules.proofs.TableLaws.{Facts, accepted-facts}
 use Rattle.run.specs.SourceRun.{sourceEnd}
 use Rattle.run.proofs.Checked.{accepted, refused}
-use Rattle.run.proofs.Statements.{ran-done, ran-spent, ran-length, left-most}
-use Rattle.run.proofs.SourceLaws.{table-refused, store-refused, source-runs}
+use Rattle.run.proofs.Statements.{ran-length, left-most}
+use Rattle.run.proofs.SourceLaws.{table-refused, store-refused, source-spent, source-finished}
 use Rattle.run.proofs.source.run_source.Statement.{statement}
 use Rattle.run.proofs.source.run_source.Tie as tie
 use Rattle.run.proofs.source.run_source.Reads as reads
@@ -63,54 +63,61 @@ sub-root c = omega (arith, facts (c .before) .some-nodes)
 taken-requires : tie.Need-taken-requires
 taken-requires c κs = length-32 (c .before)
 
+add-exec : tie.Need-add-exec
+add-exec c = search needs
+
 exec-requires : tie.Need-exec-requires
 exec-requires c κs =
-    let b = c .before .before .before .before in
+    let b = c .before .before .before .before .before in
     let f = facts b in
-    record { accepted = passed b; inside = omega (arith, f .some-nodes); class = f .root-statement }
+    (record { accepted = passed b; inside = omega (arith, f .some-nodes); class = f .root-statement }, omega arith)
+
+-- where the run has ended, the test that the store passed
+abbrev lent : lts.After-exec calls reads.Pre reads.Post → lts.Else1 calls reads.Pre reads.Post
+lent x = x .before .before .before .before .before
 
 put-back-requires : tie.Need-put-back-requires
 put-back-requires c κs =
     let x = c .before .before in
-    let values = length-32 (x .before .before .before .before) in
-    (values, ran-length _ (x .exec .ensures) ∙ ap length (x .before .before .taken .ensures) ∙ values)
-
-enum-known-left : tie.Need-enum-known-left
-enum-known-left c = search needs
-
-sub-t23 : tie.Need-sub-t23
-sub-t23 c = left-most (c .before .before .before .before .before .before .before .exec .ensures) _ (c .before .left .given .1)
-
-enum-told-2 : tie.Need-enum-told-2
-enum-told-2 c = search needs
+    let values = length-32 (lent x) in
+    (values, ran-length _ (x .exec .ensures) ∙ ap length (x .before .before .before .taken .ensures) ∙ values)
 
 same-length : tie.Need-same-length
 same-length c = search needs
 
 returns-3 : tie.Need-returns-3
-unfolding program sourceEnd
 returns-3 c =
-    let x = c .before .before .before .before .before .before .before in
-    let branch = x .before .before .before .before in
+    let x = c .before .before .before .before .before in
+    let branch = lent x in
     let s = branch .before .before .before .before .before in
-    rw (c .before .before .before .before .put-back .ensures)
-    (sym
-    (source-runs (s .args .table .now) (s .args .store .now) (s .args .fuel) (passed (branch .before)) (length-32 branch)
-    ∙ ap (sourceEnd (s .args .fuel)) (rw (x .before .before .taken .ensures) at (ran-done (x .exec .ensures) refl _ (c .before .left .given .1)))))
+    let ran = rw (x .before .before .before .taken .ensures) at (x .exec .ensures) in
+    rw (c .before .before .put-back .ensures)
+    (sym (source-spent (s .args .table .now) (s .args .store .now) (s .args .fuel) (passed (branch .before)) (length-32 branch) (rw (c .if2 .taken) at ran)))
+
+sub-t19 : tie.Need-sub-t19
+sub-t19 c = search needs
+
+-- no more is left than was given
+left-within : (x : lts.After-exec calls reads.Pre reads.Post) → x .exec .result ≤ lent x .before .before .before .before .before .args .fuel + 1
+left-within x = left-most _ (x .exec .ensures) (omega arith)
+
+cast-t25 : tie.Need-cast-t25
+cast-t25 c = omega (arith, left-within (c .before .before .before .before .before))
+
+sub-t26 : tie.Need-sub-t26
+sub-t26 c = omega (arith, left-within (c .before .before .before .before .before))
 
 same-length-2 : tie.Need-same-length-2
 same-length-2 c = search needs
 
 returns-4 : tie.Need-returns-4
-unfolding program sourceEnd
 returns-4 c =
-    let x = c .before .before .before .before .before .before in
-    let branch = x .before .before .before .before in
+    let x = c .before .before .before .before .before in
+    let branch = lent x in
     let s = branch .before .before .before .before .before in
-    rw (c .before .before .before .put-back .ensures)
-    (sym
-    (source-runs (s .args .table .now) (s .args .store .now) (s .args .fuel) (passed (branch .before)) (length-32 branch)
-    ∙ ap (sourceEnd (s .args .fuel)) (rw (x .before .before .taken .ensures) at (ran-spent (x .exec .ensures) refl (c .enum-told2 .given .1)))))
+    let ran = rw (x .before .before .before .taken .ensures) at (x .exec .ensures) in
+    rw (c .before .before .put-back .ensures)
+    (sym (source-finished (s .args .table .now) (s .args .store .now) (s .args .fuel) (passed (branch .before)) (length-32 branch) _ (omega (arith, c .if2 .left)) ran))
 
 pub run-source-spec : {M : Type 1} → statement M
 run-source-spec =
@@ -123,12 +130,13 @@ run-source-spec =
     returns-2
     sub-root
     taken-requires
+    add-exec
     exec-requires
     put-back-requires
-    enum-known-left
-    sub-t23
-    enum-told-2
     same-length
     returns-3
+    sub-t19
+    cast-t25
+    sub-t26
     same-length-2
     returns-4)
