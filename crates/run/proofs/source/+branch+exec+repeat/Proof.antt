@@ -305,7 +305,7 @@ module _ (m : ℕ) where
       let l = c .before .before .before .before in
       let s = l .before .before .before in
       since (l .loop .inv .2)
-      (loop-ends (as-while s) (c .before .before .before .loop-test .taken)
+      (loop-ends (as-while s) (omega (linear, c .before .before .before .loop-test .taken))
       (tested (s .args .t .now .now) (l .loop .s) (c .before .boolean .ensures) (l .before .before .place .ensures) (not-true _ (c .if1 .taken))))
 
   repeat-sub-exec : repeat-lts.Need-sub-exec (repeat-calls m) (repeat-at m) repeat.Post repeat-Inv-loop repeat-μ-loop
@@ -330,7 +330,7 @@ module _ (m : ℕ) where
       let l = test .before .before .before .before in
       let s = l .before .before .before in
       since (l .loop .inv .2)
-      (loop-stops (as-while s) (test .before .before .before .loop-test .taken) _
+      (loop-stops (as-while s) (omega (linear, test .before .before .before .loop-test .taken)) _
       (tested (s .args .t .now .now) (l .loop .s) (test .before .boolean .ensures) (l .before .before .place .ensures) (not-false _ (test .if1 .left)))
       (ran-as (x .exec .ensures) (l .before .place2 .ensures)) (c .if2 .taken))
 
@@ -353,7 +353,7 @@ module _ (m : ℕ) where
         omega (linear, c .if2 .left),
         omega (linear, l .loop .inv .1, shorter x),
         l .loop .inv .2
-            ∙ loop-again (as-while s) (test .before .before .before .loop-test .taken) _
+            ∙ loop-again (as-while s) (omega (linear, test .before .before .before .loop-test .taken)) _
             (tested (s .args .t .now .now) (l .loop .s) (test .before .boolean .ensures) (l .before .before .place .ensures) (not-false _ (test .if1 .left)))
             (ran-as (x .exec .ensures) (l .before .place2 .ensures)) (c .if2 .left),
       )
