@@ -2,33 +2,18 @@
 ghost use mathlib.Core.Path.{_≡_};
 ghost use mathlib.Core.Bool.{true};
 ghost use Prim.Native.Nat.{_+_, _*_, _<_, _≤_};
-ghost use lib.ListN.{length, take, drop};
+ghost use lib.ListN.{length, getD, take, drop};
 ghost use lib.Seq.{sets};
-ghost use Rattle.rules.specs.Text.{isDigit, digitValue, numberOf, lines, wordsOfText};
+ghost use Rattle.rules.specs.Text.{isDigit, numberOf, lines, wordsOfText};
 ghost use Rattle.rules.specs.Answer.{ended};
 ghost use Rattle.text.specs.Reading.{reading};
-ghost use Rattle.text.specs.Parts.{valueTable, lineAt, FirstFault, DigitsAt, wordsAt, CanRead};
+ghost use Rattle.text.specs.Parts.{lineAt, FirstFault, DigitsAt, packed, wordsAt, CanRead};
 use rules::Text;
-
-// The values of the digits, from byte 48 on: 0 to 9, then 39 bytes that are no digits, then a to f. The loops are lent a
-// copy: a constant that is indexed is laid out anew at each index.
-const VALUES: [u8; 55] = *b"\
-    \x00\x01\x02\x03\x04\x05\x06\x07\x08\x09\
-    \0\0\0\0\0\0\0\0\0\0\0\0\0\0\0\0\0\0\0\0\0\0\0\0\0\0\0\0\0\0\0\0\0\0\0\0\0\0\0\
-    \x0a\x0b\x0c\x0d\x0e\x0f";
 
 fn is_digit(b: u8) -> bool
     ensures { λ r. ⌜ r ≡ isDigit b ⌝ }
 {
     (48 <= b) & (b <= 57) | (97 <= b) & (b <= 102)
-}
-
-// A digit's value.
-fn value(values: &[u8; 55], b: u8) -> u32
-    requires { ⌜ (now values ≡ valueTable) × (isDigit b ≡ true) ⌝ }
-    ensures { λ r. ⌜ (r ≡ digitValue b) × (r < 16) ⌝ }
-{
-    values[(b as usize) - 48] as u32
 }
 
 // Digits and a newline, from byte at on. No byte is passed over early, so that many are looked at together.
@@ -69,42 +54,55 @@ fn first_fault(text: &[u8], w: usize, n: usize) -> usize
     k
 }
 
-// The word that eight digits write.
-fn word(values: &[u8; 55], text: &[u8], at: usize) -> u32
-    requires { ⌜ (now values ≡ valueTable) × DigitsAt (now text) at 8 ⌝ }
-    ensures { λ r. ⌜ r ≡ numberOf 0 (take 8 (drop at (now (text .entry)))) ⌝ }
+// Eight bytes as lanes of one number, the first highest.
+fn lanes(text: &[u8], at: usize) -> u64
+    requires { ⌜ at + 8 ≤ length (now text) ⌝ }
+    ensures { λ r. ⌜ r ≡ packed 8 (λ i. getD (now (text .entry)) (at + i) 0) 8 ⌝ }
 {
-    let mut v = 0;
+    let mut x: u64 = 0;
     let mut j = 0;
     while j < 8 {
-        v = 16 * v + value(values, text[at + j]);
+        x = 256 * x + (text[at + j] as u64);
         j += 1;
     }
-    v
+    x
+}
+
+// The word that eight digits write: each lane becomes its digit's value, then two lanes at a time become one.
+fn word(text: &[u8], at: usize) -> u32
+    requires { ⌜ DigitsAt (now text) at 8 ⌝ }
+    ensures { λ r. ⌜ r ≡ numberOf 0 (take 8 (drop at (now (text .entry)))) ⌝ }
+{
+    let x = lanes(text, at);
+    // the low four bits of each byte, and nine more for a letter, whose bit 64 is set
+    let d = (x & 0x0f0f_0f0f_0f0f_0f0f) + 9 * ((x & 0x4040_4040_4040_4040) / 64);
+    let e = (d + d / 16) & 0x00ff_00ff_00ff_00ff;
+    let f = (e + e / 256) & 0x0000_ffff_0000_ffff;
+    ((f + f / 65536) & 0xffff_ffff) as u32
 }
 
 // The words of one line, to room from `to` on.
-fn read_line(values: &[u8; 55], text: &[u8], at: usize, w: usize, room: &mut [u32], to: usize)
-    requires { ⌜ (now values ≡ valueTable) × DigitsAt (now text) at (8 * w) × (to + w ≤ length (now room)) ⌝ }
+fn read_line(text: &[u8], at: usize, w: usize, room: &mut [u32], to: usize)
+    requires { ⌜ DigitsAt (now text) at (8 * w) × (to + w ≤ length (now room)) ⌝ }
     ensures { λ _. ⌜ now (room .exit) ≡ sets (now (room .entry)) to (wordsAt (now (text .entry)) at w) ⌝ }
 {
     let mut i = 0;
     while i < w {
-        room[to + i] = word(values, text, at + 8 * i);
+        room[to + i] = word(text, at + 8 * i);
         i += 1;
     }
 }
 
 // The words of n lines, to the front of room.
-fn read_lines(values: &[u8; 55], text: &[u8], w: usize, n: usize, room: &mut [u32])
-    requires { ⌜ (now values ≡ valueTable) × CanRead w (now text) n (length (now room)) ⌝ }
+fn read_lines(text: &[u8], w: usize, n: usize, room: &mut [u32])
+    requires { ⌜ CanRead w (now text) n (length (now room)) ⌝ }
     ensures { λ _. ⌜ now (room .exit) ≡ sets (now (room .entry)) 0 (wordsOfText w (now (text .entry))) ⌝ }
 {
     let mut k = 0;
     let mut at = 0;
     let mut to = 0;
     while k < n {
-        read_line(values, text, at, w, room, to);
+        read_line(text, at, w, room, to);
         k += 1;
         at += 8 * w + 1;
         to += w;
@@ -123,7 +121,6 @@ pub fn read_frames(text: &[u8], w: usize, room: &mut [u32]) -> Text
     if room.len() < w * n {
         return super::refused(15, 0);
     }
-    let values = VALUES;
-    read_lines(&values, text, w, n, room);
+    read_lines(text, w, n, room);
     Text::Done((w * n) as u32)
 }
