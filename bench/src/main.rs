@@ -28,5 +28,6 @@ fn main() {
     }
     runs::programs(&ours);
     runs::code_lengths(&ours);
+    runs::largest_step(&ours);
     calls::calls(&ours);
 }

@@ -100,3 +100,18 @@ pub fn code_lengths(ours: &Ours) {
         }
     }
 }
+
+/// What a step can cost at most: each evaluates an expression that fills the table.
+pub fn largest_step(ours: &Ours) {
+    const FUEL: u32 = 999;
+    let (table, code) = workloads::largest_assign();
+    let spent = (OUT_OF_FUEL, FUEL);
+    let pair = side_by_side(
+        FUEL.into(),
+        || run([1; 32], spent, |store| ours.run_code(&table, &code, 0, store, FUEL)),
+        || run([1; 32], spent, |store| oracle::run_code(&table, &code, 0, store, FUEL)),
+    );
+    println!("\n| Code run | Ours, ns/step | Plain Rust, ns/step | Ours/plain |");
+    println!("|---|---:|---:|---:|");
+    println!("| assigns of 1,023 expression nodes | {} |", columns(pair));
+}

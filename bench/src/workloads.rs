@@ -127,8 +127,25 @@ pub fn table_of_one_assign() -> Vec<u32> {
 
 /// Assigns one after the other, and a goto back to the first.
 pub fn code_in_line(instructions: u32) -> Vec<u32> {
-    let assigns = (0..instructions - 1).flat_map(|label| [label, 1, 0, 2]);
+    code_of_assigns(instructions, 2)
+}
+
+fn code_of_assigns(instructions: u32, expression: u32) -> Vec<u32> {
+    let assigns = (0..instructions - 1).flat_map(|label| [label, 1, 0, expression]);
     assigns.chain([instructions - 1, 2, 0, 0]).collect()
+}
+
+/// A full table with one assign, whose expression has 1,023 nodes: 256 remainders, summed up.
+pub fn largest_assign() -> (Vec<u32>, Vec<u32>) {
+    fn summed(terms: u32) -> Tree {
+        match terms {
+            1 => operation(REMAINDER, variable(0), number(7)),
+            _ => operation(SUM, summed(terms / 2), summed(terms / 2)),
+        }
+    }
+    let table = assign(0, summed(256)).table();
+    assert_eq!(table.len(), 4 * 1024);
+    (table, code_of_assigns(1000, 1022))
 }
 
 /// Gotos only: each leaps about three fifths of the code ahead and round, so that one after the other is reached.

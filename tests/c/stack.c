@@ -25,41 +25,47 @@ static uint32_t node(uint32_t kind, uint32_t p, uint32_t q, uint32_t r) {
     return n;
 }
 
-// An expression of this depth, deep in the named word of each node, assigned to v0.
-static void deep_sum(int depth, int left) {
-    uint32_t n = node(1, 7, 0, 0);
-    for (int d = 1; d < depth; d++) {
-        uint32_t leaf = node(2, 0, 0, 0);
-        n = left ? node(3, n, leaf, 0) : node(3, leaf, n, 0);
+enum { NUMBER = 1, SUM = 3, CHOOSE = 8, TRUE = 16, FALSE = 17, LESS = 20, NOT = 21, AND = 22, SKIP = 32, ASSIGN = 33, SEQUENCE = 34, IF = 35, WHILE = 36 };
+
+static uint32_t leaf(uint32_t kind) { return node(kind, 0, 0, 0); }
+
+// A node of a kind over `child`, which is its word p, q or r; what else it names is a leaf. A test leads to the child.
+static uint32_t over(uint32_t kind, int word, uint32_t child) {
+    uint32_t other;
+    switch (kind) {
+    case NOT:
+        return node(NOT, child, 0, 0);
+    case WHILE:
+        other = leaf(TRUE);
+        return node(WHILE, other, child, 0);
+    case IF:
+    case CHOOSE: {
+        uint32_t test = word == 0 ? child : leaf(word == 1 ? TRUE : FALSE);
+        other = leaf(kind == IF ? SKIP : NUMBER);
+        uint32_t third = word == 0 ? leaf(kind == IF ? SKIP : NUMBER) : child;
+        return word == 2 ? node(kind, test, other, third) : node(kind, test, third, other);
     }
-    node(33, 0, n, 0);
+    default: // two words of one class
+        other = leaf(kind == SUM || kind == LESS ? NUMBER : kind == AND ? TRUE : SKIP);
+        return word == 0 ? node(kind, child, other, 0) : node(kind, other, child, 0);
+    }
 }
 
-// Comparison under choose under comparison: both evaluators, in turn. An odd depth ends in a choose.
-static void deep_choose(int depth) {
-    uint32_t n = node(2, 0, 0, 0);
-    for (int d = 1; d + 1 < depth; d += 2) {
-        uint32_t b = node(20, node(1, 0, 0, 0), n, 0);
-        // Children first: the comparison names the node made just before it.
-        uint32_t x = node(1, 1, 0, 0), y = node(1, 2, 0, 0);
-        n = node(8, b, x, y);
+// Nodes of one kind, or of two in turn, one under the other, as a statement of this depth.
+static void deep(int depth, uint32_t first, uint32_t second, int word) {
+    int boolean = first == NOT || first == AND;
+    int statement = first >= SEQUENCE;
+    uint32_t n = leaf(boolean ? TRUE : statement ? SKIP : NUMBER);
+    int levels = statement ? depth - 1 : depth - 2;
+    for (int d = 0; d + (first != second) < levels; d += 1 + (first != second)) {
+        n = over(first, word, n);
+        if (second != first) n = over(second, word, n);
     }
-    node(33, 0, n, 0);
-}
-
-static void deep_statement(int depth, uint32_t kind) {
-    uint32_t n = node(32, 0, 0, 0);
-    for (int d = 1; d < depth; d++) {
-        if (kind == 34) {
-            uint32_t other = node(32, 0, 0, 0);
-            n = node(34, other, n, 0);
-        } else if (kind == 35) {
-            uint32_t b = node(17, 0, 0, 0), other = node(32, 0, 0, 0);
-            n = node(35, b, other, n);
-        } else {
-            uint32_t b = node(16, 0, 0, 0);
-            n = node(36, b, n, 0);
-        }
+    if (boolean) {
+        uint32_t yes = leaf(SKIP), no = leaf(SKIP);
+        node(IF, n, yes, no);
+    } else if (!statement) {
+        node(ASSIGN, 0, n, 0);
     }
 }
 
@@ -108,19 +114,37 @@ static void measure(const char *name) {
         code_words = i == 3 ? code_words : 0;
         if (i == 3) compile();
         size_t deep = depth_of(calls[i].f);
-        printf("%-16s %-34s %6zu bytes, verdict %u number %u\n", calls[i].name, name, deep > base ? deep - base : 0, answer[0], answer[1]);
+        printf("%-16s %-40s %6zu bytes, verdict %u number %u\n", calls[i].name, name, deep > base ? deep - base : 0, answer[0], answer[1]);
     }
     table_words = 0;
 }
 
 int main(void) {
-    deep_sum(255, 0), measure("sum, deep on the right, 256");
-    deep_sum(255, 1), measure("sum, deep on the left, 256");
-    deep_choose(255), measure("choose and comparison, 256");
-    deep_statement(256, 34), measure("sequences, 256");
-    deep_statement(256, 35), measure("ifs, 256");
-    deep_statement(256, 36), measure("whiles, 256");
-    deep_sum(500, 0), measure("refused 9: sum, depth 501");
-    deep_statement(340, 35), measure("refused 9: ifs, depth 340");
+    static const struct {
+        const char *name;
+        uint32_t first, second;
+        int word;
+    } shapes[] = {{"sums, in p", SUM, SUM, 0},
+                  {"sums, in q", SUM, SUM, 1},
+                  {"chooses, in q", CHOOSE, CHOOSE, 1},
+                  {"chooses, in r", CHOOSE, CHOOSE, 2},
+                  {"comparisons and chooses, in p", LESS, CHOOSE, 0},
+                  {"nots", NOT, NOT, 0},
+                  {"ands, in p", AND, AND, 0},
+                  {"ands, in q", AND, AND, 1},
+                  {"sequences, in p", SEQUENCE, SEQUENCE, 0},
+                  {"sequences, in q", SEQUENCE, SEQUENCE, 1},
+                  {"ifs, in q", IF, IF, 1},
+                  {"ifs, in r", IF, IF, 2},
+                  {"whiles", WHILE, WHILE, 1},
+                  {"whiles and ifs, in q", WHILE, IF, 1}};
+    for (size_t i = 0; i < sizeof shapes / sizeof *shapes; i++) {
+        char name[64];
+        for (int depth = 256; depth <= 300; depth += 44) { // the deepest accepted, and one refused 9
+            deep(depth, shapes[i].first, shapes[i].second, shapes[i].word);
+            snprintf(name, sizeof name, "%s, depth %d", shapes[i].name, depth);
+            measure(name);
+        }
+    }
     return 0;
 }
