@@ -1,17 +1,16 @@
 -- A node's depth from its words, and a bound on it by the node's number.
 use mathlib.Core.Path.{_≡_, refl, ap, sym, _∙_}
-use mathlib.Core.Bool.{Bool, true, false}
+use mathlib.Core.Bool.{Bool, true, false, cond}
 use mathlib.Core.List.{List, [], _∷_, _++_}
-use Prim.Native.Nat.{ℕ, zero, suc, _+_, _*_, _-_, _<_, _≤_, max}
-use native.Mathlib.Nat.{add-zero}
+use Prim.Native.Nat.{ℕ, zero, suc, _+_, _<_, _≤_, max}
 use native.Mathlib.Omega.{arith}
-use lib.Dec.{leb}
-use lib.ListN.{getD}
-use borrow.Author.Tests.{le-leb, lt-leb, leb-true, leb-false}
-use Rattle.rules.specs.Lists.{fetch}
-use Rattle.rules.specs.Table.{field, nodes, kindOf, rowOf, rowAt, Slot, unused, any, var, child, childIn, children, deepest, depthAt}
-use Rattle.rules.proofs.TableLaws.{Fills, NodeFits, node-fits, Below, children-below, depth-at, in-run}
-use Rattle.table.specs.Steps.{slotCode, Sound}
+use lib.Dec.{ltb}
+use lib.ListN.{getD, set, length-set}
+use lib.Seq.{getD-set-same, getD-set-other}
+use borrow.Author.Tests.{ltb-true, ltb-false}
+use Rattle.rules.specs.Table.{field, nodes, rowAt, Slot, unused, any, var, child, childIn, children, deepest, depthAt}
+use Rattle.rules.proofs.TableLaws.{Fills, NodeFits, node-fits, Below, children-below, depth-at}
+use Rattle.table.specs.Steps.{slotCode, Sound, Measured}
 use Rattle.table.proofs.RowLaws.{rank-small}
 
 deepest-append : (f : ℕ → ℕ) (xs ys : List ℕ) → deepest f (xs ++ ys) ≡ max (deepest f xs) (deepest f ys)
@@ -49,15 +48,6 @@ child-lower t n any w k e f h = absurd (omega arith)
 child-lower t n var w k e f h = absurd (omega arith)
 child-lower t n (child c) w k e f h = f .below
 
--- the kinds 0, 1 and 2 have no children
-no-children : (t : List ℕ) (n : ℕ) → field t n 0 < 3 → children t n ≡ []
-unfolding children rowOf kindOf fetch childIn
-no-children t n h = in-run None 0 3 (refl, (refl, (refl, tt))) (field t n 0) (omega arith) h
-  where
-    None : ℕ → Type 0
-    None k =
-        childIn (rowOf (kindOf k) .p) (field t n 1) ++ childIn (rowOf (kindOf k) .q) (field t n 2) ++ childIn (rowOf (kindOf k) .r) (field t n 3) ≡ []
-
 module _ (t : List ℕ) (sound : Sound t) where
   pub fits : (n : ℕ) → n < nodes t → NodeFits t n
   fits n h = node-fits t n (sound n h)
@@ -77,11 +67,6 @@ module _ (t : List ℕ) (sound : Sound t) where
       let rs = childIn (rowAt t n .r) (field t n 3) in
       depth-at t n (low n h) ∙ ap suc (deepest-append (depthAt t) (ps ++ qs) rs ∙ rw (deepest-append (depthAt t) ps qs))
 
-  -- a number or a variable
-  pub leaf-depth : (n : ℕ) → n < nodes t → getD t (4 * n) 0 < 3 → depthAt t n ≡ 1
-  unfolding deepest
-  leaf-depth n h l = depth-at t n (low n h) ∙ ap (λ (xs : List ℕ). suc (deepest (depthAt t) xs)) (no-children t n (rw add-zero l))
-
   -- a node is at most one deeper than its number
   pub depth-most : (n : ℕ) → n < nodes t → depthAt t n ≤ suc n
   depth-most n h = within (suc n) n (omega arith) h
@@ -92,48 +77,30 @@ module _ (t : List ℕ) (sound : Sound t) where
           let lower : (x : ℕ) → x < n → depthAt t x ≤ n = λ x g. let d = within m x (omega arith) (omega arith) in omega arith in
           omega (arith, depth-at t n (low n h), deepest-below (depthAt t) n (children t n) (low n h) lower)
 
--- ---- a step from a node to its first child, with one less to spend
+-- ---- depths that are known already
 
-pub same-test : (a b c d : ℕ) → (a ≤ b → c ≤ d) → (c ≤ d → a ≤ b) → leb a b ≡ leb c d
-same-test a b c d f g = go (leb a b) refl
+-- what is read for the word w of node n in slot k is how deep it is
+pub word-measured : {t : List ℕ} {n : ℕ} {d : List ℕ} → Measured t n d → (s : Slot) (w k : ℕ) → slotCode s ≡ k → Fills t n s w
+    → cond (ltb k 4) (getD d w 0) 0 ≡ wordDepth t s w
+word-measured {t} {n} {d} m s w k e f = by (ltb k 4) refl
   where
-    go : (x : Bool) → leb a b ≡ x → leb a b ≡ leb c d
-    go true e = e ∙ sym (le-leb c d (f (leb-true a b e)))
-    go false e = e ∙ sym (lt-leb c d (no-more (leb-false a b e)))
+    by : (b : Bool) → ltb k 4 ≡ b → cond (ltb k 4) (getD d w 0) 0 ≡ wordDepth t s w
+    by true h =
+        let c = ltb-true k 4 h in
+        rw h (m .known w (child-lower t n s w k e f c) ∙ sym (child-depth t s w k e c))
+    by false h = rw h (sym (no-depth t s w k e (ltb-false k 4 h)))
+
+-- one depth more
+pub measured-more : {t : List ℕ} {n : ℕ} {d : List ℕ} → Measured t n d → n < 1024 → (v : ℕ) → v ≡ depthAt t n → Measured t (n + 1) (set d n v)
+measured-more {t} {n} {d} m h v e = record { room = length-set d n v ∙ m .room; known = known }
+  where
+    known : (k : ℕ) → k < n + 1 → getD (set d n v) k 0 ≡ depthAt t k
+    known k l = by (ltb k n) refl
       where
-        no-more : b < a → d < c
-        no-more l = test (leb c d) refl
-          where
-            test : (x : Bool) → leb c d ≡ x → d < c
-            test true q = absurd (let h : a ≤ b = g (leb-true c d q) in omega arith)
-            test false q = leb-false c d q
-
-module _ (t : List ℕ) (sound : Sound t) (n left : ℕ) (inside : n < nodes t) (some : 0 < left) where
-  abbrev P : ℕ
-  P = wordDepth t (rowAt t n .p) (field t n 1)
-
-  abbrev Q : ℕ
-  Q = wordDepth t (rowAt t n .q) (field t n 2)
-
-  abbrev R : ℕ
-  R = wordDepth t (rowAt t n .r) (field t n 3)
-
-  pub deep-second : leb Q (left - 1) ≡ false → leb (depthAt t n) left ≡ false
-  deep-second e = lt-leb (depthAt t n) left (omega (arith, depth-words t sound n inside, leb-false Q (left - 1) e))
-
-  pub deep-third : leb R (left - 1) ≡ false → leb (depthAt t n) left ≡ false
-  deep-third e = lt-leb (depthAt t n) left (omega (arith, depth-words t sound n inside, leb-false R (left - 1) e))
-
-  module _ (q : leb Q (left - 1) ≡ true) (r : leb R (left - 1) ≡ true) (k : ℕ) (e : slotCode (rowAt t n .p) ≡ k) where
-    pub no-first : 4 ≤ k → leb (depthAt t n) left ≡ true
-    no-first h =
-        let z = no-depth t (rowAt t n .p) (field t n 1) k e h in
-        le-leb (depthAt t n) left (omega (arith, depth-words t sound n inside, z, leb-true Q (left - 1) q, leb-true R (left - 1) r))
-
-    pub first-next : k < 4 → leb (depthAt t n) left ≡ leb (depthAt t (field t n 1)) (left - 1)
-    first-next h =
-        let d = depth-words t sound n inside in
-        let c = child-depth t (rowAt t n .p) (field t n 1) k e h in
-        same-test (depthAt t n) left (depthAt t (field t n 1)) (left - 1)
-        (λ l. omega (arith, d, c))
-        (λ l. omega (arith, d, c, leb-true Q (left - 1) q, leb-true R (left - 1) r))
+        by : (b : Bool) → ltb k n ≡ b → getD (set d n v) k 0 ≡ depthAt t k
+        by true q =
+            let lower = ltb-true k n q in
+            getD-set-other d n k v 0 (λ same. absurd (omega (arith, lower))) ∙ m .known k lower
+        by false q =
+            let same : k ≡ n = omega (arith, ltb-false k n q) in
+            rw same (getD-set-same d n v 0 (omega (arith, m .room)) ∙ e)

@@ -5,12 +5,12 @@ use mathlib.Core.Path.{_≡_}
 use mathlib.Core.Bool.{Bool, true, not}
 use mathlib.Core.List.{List, [], _∷_}
 use mathlib.Core.Option.{Option}
-use lib.Dec.{eqb, ltb, leb}
-use lib.ListN.{getD, set, replicate}
+use lib.Dec.{eqb, ltb}
+use lib.ListN.{length, getD, set, replicate}
 use Rattle.rules.specs.Lists.{joined}
 use Rattle.rules.specs.Refusal.{fine, refuse, refuseLowest, _orElse_}
 use Rattle.rules.specs.Table.{nodes, root, kindOf, rowOf, Row, statement, rank, isClass, Slot, unused, any, var, child}
-use Rattle.rules.specs.Table.{wordFault, nodeFault, onceFault, childIn, children, deepest, depthAt}
+use Rattle.rules.specs.Table.{wordFault, nodeFault, onceFault, childIn, children, depthAt}
 use Rattle.rules.specs.declared.Refusal.{Refusal}
 use Rattle.rules.specs.declared.Checked.{Checked}
 use Rattle.table.specs.Checking.{answer}
@@ -91,9 +91,10 @@ pub record Swept (t m : List ℕ) (r : Checked) (m′ : List ℕ) : Type 0 where
 
 -- ---- the tree
 
--- r is whether the word w is no child, or one of at most this depth
-abbrev pub UnderBy : List ℕ → ℕ → ℕ → ℕ → Bool → Type 0
-UnderBy t slot w budget r = (s : Slot) → slotCode s ≡ slot → r ≡ leb (deepest (depthAt t) (childIn s w)) budget
+-- the depths of the nodes below n
+pub record Measured (t : List ℕ) (n : ℕ) (depths : List ℕ) : Type 0 where
+  pub room : length depths ≡ 1024
+  pub known : (k : ℕ) → k < n → getD depths k 0 ≡ depthAt t k
 
 -- refusals 7 to 9
 unfoldable pub treeRefusal : List ℕ → Option Refusal

@@ -4,15 +4,16 @@ mod rows;
 use rules::Checked;
 use rules::Refusal;
 ghost use mathlib.Core.Path.{_≡_};
-ghost use mathlib.Core.Bool.{_&&_};
+ghost use mathlib.Core.Bool.{cond, _&&_};
 ghost use mathlib.Core.Option.{some};
-ghost use Prim.Native.Nat.{_%_, _<_, _≤_, min};
+ghost use Prim.Native.Nat.{_%_, _<_, _≤_, min, max};
 ghost use lib.Dec.{eqb, ltb, leb};
+ghost use lib.ListN.{getD};
 ghost use Rattle.rules.specs.Refusal.{refusal};
-ghost use Rattle.rules.specs.Table.{nodes, nodeFault, depthAt};
+ghost use Rattle.rules.specs.Table.{nodes, root, nodeFault, depthAt};
 ghost use Rattle.table.specs.Checking.{answer, checking};
 ghost use Rattle.table.specs.Steps.{Rows, Greatest, bump, FirstNotOne, Within, PlacedBy, FaultBy, Walked};
-ghost use Rattle.table.specs.Steps.{Sound, Swept, UnderBy, treeRefusal, Marked};
+ghost use Rattle.table.specs.Steps.{Sound, Swept, Measured, treeRefusal, Marked};
 
 fn refused(number: u32, place: usize) -> Checked
     requires { ⌜ place < 1024 ⌝ }
@@ -174,55 +175,47 @@ fn first_not_one(marks: &[u8; 1024], root: usize) -> usize
     k
 }
 
-// Whether the word w in this slot is no child, or one at most this deep. A node is at most one deeper than its number, and a number
-// or a variable has depth 1.
-fn under(t: &[u32], rows: &[u32; 37], slot: u32, w: u32, budget: usize) -> bool
-    requires { ⌜ Sound (now t) × Rows (now rows) × (slot < 4 → w < nodes (now t)) ⌝ }
-    ensures { λ r. ⌜ UnderBy (now (t .entry)) slot w budget r ⌝ }
+// The depth of the child that the word w names in this slot, or 0 where it names none.
+fn depth_of(depths: &[u16; 1024], slot: u32, w: u32) -> u16
+    requires { ⌜ (slot < 4 → w < 1024) ⌝ }
+    ensures { λ r. ⌜ r ≡ cond (ltb slot 4) (getD (now (depths .entry)) w 0) 0 ⌝ }
 {
-    if 4 <= slot {
-        return true;
-    }
-    let k = w as usize;
-    if k < budget {
-        return true;
-    }
-    if t[4 * k] < 3 {
-        return 0 < budget;
-    }
-    shallow(t, rows, k, budget)
+    if slot < 4 { depths[w as usize] } else { 0 }
 }
 
-// Whether node top is at most this deep. The first child is looked at in the next pass, the others by calls with a lesser budget, so
-// that calls nest no deeper than the budget.
-fn shallow(t: &[u32], rows: &[u32; 37], top: usize, budget: usize) -> bool
-    requires { ⌜ Sound (now t) × Rows (now rows) × (top < nodes (now t)) ⌝ }
-    ensures { λ r. ⌜ r ≡ leb (depthAt (now (t .entry)) top) budget ⌝ }
+fn greater(a: u16, b: u16) -> u16
+    ensures { λ r. ⌜ r ≡ max a b ⌝ }
 {
-    let mut n = top;
-    let mut left = budget;
-    while left <= n {
-        if left == 0 {
-            return false;
-        }
-        let at = 4 * n;
-        if t[at] < 3 {
-            return true;
-        }
-        left -= 1;
-        let row = rows::row_at(t, rows, n);
-        if !under(t, rows, row / 16 % 16, t[at + 2], left) {
-            return false;
-        }
-        if !under(t, rows, row % 16, t[at + 3], left) {
-            return false;
-        }
-        if 4 <= row / 256 % 16 {
-            return true;
-        }
-        n = t[at + 1] as usize;
+    if a < b { b } else { a }
+}
+
+// The depth of node n, by those of the nodes below it.
+fn node_depth(t: &[u32], rows: &[u32; 37], depths: &[u16; 1024], n: usize) -> u16
+    requires { ⌜ Sound (now t) × Rows (now rows) × Within (now t) n × Measured (now t) n (now depths) ⌝ }
+    ensures { λ r. ⌜ r ≡ depthAt (now (t .entry)) n ⌝ }
+{
+    let at = 4 * n;
+    let row = rows::row_at(t, rows, n);
+    let p = depth_of(depths, row / 256 % 16, t[at + 1]);
+    let q = depth_of(depths, row / 16 % 16, t[at + 2]);
+    let r = depth_of(depths, row % 16, t[at + 3]);
+    1 + greater(greater(p, q), r)
+}
+
+// The depth of the root. Children lie below their parent, so one pass over the nodes finds every depth.
+fn root_depth(t: &[u32], rows: &[u32; 37]) -> u16
+    requires { ⌜ Sound (now t) × Rows (now rows) × Within (now t) (root (now t)) ⌝ }
+    ensures { λ r. ⌜ r ≡ depthAt (now (t .entry)) (root (now (t .entry))) ⌝ }
+{
+    let mut depths = [0u16; 1024];
+    let count = t.len() / 4;
+    let mut n = 0;
+    while n < count {
+        let d = node_depth(t, rows, &depths, n);
+        depths[n] = d;
+        n += 1;
     }
-    true
+    depths[count - 1]
 }
 
 // Refusals 7 to 9, where no node is refused and every child is marked.
@@ -238,7 +231,11 @@ fn check_tree(t: &[u32], rows: &[u32; 37], marks: &[u8; 1024]) -> Checked
     if k < root {
         return refused(8, k);
     }
-    if shallow(t, rows, root, 256) {
+    // A node is at most one deeper than its number.
+    if root < 256 {
+        return Checked::Done;
+    }
+    if root_depth(t, rows) <= 256 {
         Checked::Done
     } else {
         refused(9, 0)

@@ -1,9 +1,18 @@
 -- `table::check_tree` meets its contract: the marks say how often each node is named, so that the first that is not 1 is 8's place.
-use mathlib.Core.Path.{sym, _∙_}
+use mathlib.Core.Path.{_≡_, sym, _∙_}
+use mathlib.Core.List.{List}
+use mathlib.Core.Option.{some}
+use Prim.Native.Nat.{ℕ, _<_, _≤_}
 use native.Mathlib.Omega.{arith}
-use borrow.Author.Tests.{leb-true, leb-false}
-use Rattle.table.proofs.CheckLaws.{refused-7, refused-8, refused-9, none-refused}
+use lib.ListN.{getD}
 use borrow.Author.Needs.{needs}
+use Rattle.rules.specs.Refusal.{refusal}
+use Rattle.rules.specs.Table.{root, depthAt}
+use Rattle.rules.specs.declared.Checked.{Checked}
+use Rattle.table.specs.Checking.{answer}
+use Rattle.table.specs.Steps.{treeRefusal}
+use Rattle.table.proofs.CheckLaws.{refused-7, refused-8, refused-9, none-refused}
+use Rattle.table.proofs.DepthLaws.{depth-most}
 use Rattle.table.proofs.check_tree.Statement.{statement}
 use Rattle.table.proofs.check_tree.Tie as tie
 
@@ -39,34 +48,44 @@ returns-2 c =
     (refused-8 (start .args .t .now) (read .row-at .result) (read .row-at .ensures) (test .if1 .left) _ (start .pre .marks) (search needs)
     _ lower (first .ones) (first .not-one lower))
 
-shallow-requires : tie.Need-shallow-requires
-shallow-requires c κs = search needs
+-- past the first two tests only the depth is left to look at
+module _ (c : tie.Else2) where
+  abbrev read : tie.After-row-at
+  read = c .before .before
+
+  abbrev start : tie.Start
+  start = read .before .before .before
+
+  abbrev tab : List ℕ
+  tab = start .args .t .now
+
+  all-ones : (k : ℕ) → k < root tab → getD (start .args .marks .now) k 0 ≡ 1
+  all-ones k h = read .before .first-not-one .ensures .ones k (omega (arith, c .if2 .left))
+
+  shallow : depthAt tab (root tab) ≤ 256 → answer (treeRefusal tab) ≡ Checked.Done
+  shallow = none-refused tab (read .row-at .result) (read .row-at .ensures) (c .before .if1 .left) _ (start .pre .marks) (search needs) all-ones
+
+  deep : 256 < depthAt tab (root tab) → answer (treeRefusal tab) ≡ answer (some (refusal 9 0))
+  deep = refused-9 tab (read .row-at .result) (read .row-at .ensures) (c .before .if1 .left) _ (start .pre .marks) (search needs) all-ones
+
+returns-3 : tie.Need-returns-3
+returns-3 c =
+    let s = start (c .before) in
+    sym (shallow (c .before) (omega (arith, c .if3 .taken, depth-most (s .args .t .now) (s .pre .sound) (root (s .args .t .now)) (s .pre .within .inside))))
+
+root-depth-requires : tie.Need-root-depth-requires
+root-depth-requires c κs = search needs
 
 refused-requires-3 : tie.Need-refused-requires-3
 refused-requires-3 c κs = search needs
 
-returns-3 : tie.Need-returns-3
-returns-3 c =
-    let deep = c in
-    let test = deep .before .before .before in
-    let read = test .before in
-    let start = read .before .before .before in
-    let first = read .before .first-not-one .ensures in
-    sym
-    (none-refused (start .args .t .now) (read .row-at .result) (read .row-at .ensures) (test .if1 .left) _ (start .pre .marks) (search needs)
-    (λ k h. first .ones k (omega arith)) (leb-true _ _ (sym (deep .before .shallow .ensures) ∙ deep .if3 .taken)))
-
 returns-4 : tie.Need-returns-4
-returns-4 c =
-    let deep = c .before in
-    let test = deep .before .before .before in
-    let read = test .before in
-    let start = read .before .before .before in
-    let first = read .before .first-not-one .ensures in
-    c .refused3 .ensures
-    ∙ sym
-    (refused-9 (start .args .t .now) (read .row-at .result) (read .row-at .ensures) (test .if1 .left) _ (start .pre .marks) (search needs)
-    (λ k h. first .ones k (omega arith)) (leb-false _ _ (sym (deep .before .shallow .ensures) ∙ deep .if3 .left)))
+returns-4 c = let d = c .before in sym (shallow (d .before .before) (omega (arith, c .if4 .taken, d .root-depth .ensures)))
+
+returns-5 : tie.Need-returns-5
+returns-5 c =
+    let d = c .before .before in
+    c .refused3 .ensures ∙ sym (deep (d .before .before) (omega (arith, c .before .if4 .left, d .root-depth .ensures)))
 
 pub check-tree-spec : {M : Type 1} → statement M
 check-tree-spec =
@@ -79,7 +98,8 @@ check-tree-spec =
     returns
     refused-requires-2
     returns-2
-    shallow-requires
-    refused-requires-3
     returns-3
-    returns-4)
+    root-depth-requires
+    refused-requires-3
+    returns-4
+    returns-5)
