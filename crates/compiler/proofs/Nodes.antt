@@ -41,8 +41,8 @@ module _ {t : List ℕ} {n start room i : ℕ} (f : Fits t n start room i) where
   facts : Facts t
   facts = accepted-facts t (f .accepted)
 
-  pub in-table : 4 * n + 4 ≤ length t
-  in-table = let l : n < nodes t = f .inside in omega (arith, facts .whole)
+  pub in-table : (4 * n + 4 ≤ length t) × (length t ≤ 4096)
+  in-table = let l : n < nodes t = f .inside in (omega (arith, facts .whole), omega (arith, facts .whole, facts .few))
 
   sized-as : (s : Stm) → stmAt t n ≡ s → Sized t n start room i s
   sized-as s e = record { stm = e; labels = rw (← e) (f .labels); words = rw (← e) (f .words) }

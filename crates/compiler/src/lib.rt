@@ -38,9 +38,9 @@ struct Node {
 }
 
 // The four words of node n.
-fn load(t: &[u32], n: u32) -> Node
-    requires { ⌜ 4 * n + 4 ≤ length (now t) ⌝ }
-    ensures { λ d. ⌜ Words (now (t .entry)) n (d .kind) (d .p) (d .q) (d .r) ⌝ }
+fn load(t: &&[u32], n: u32) -> Node
+    requires { ⌜ (4 * n + 4 ≤ length (now (now t))) × (length (now (now t)) ≤ 4096) ⌝ }
+    ensures { λ d. ⌜ Words (now (now (t .entry))) n (d .kind) (d .p) (d .q) (d .r) ⌝ }
 {
     let at = 4 * (n as usize);
     Node {
@@ -89,9 +89,10 @@ fn put_ifnot(room: &mut [u32], start: u32, i: u32, b: u32, e: u32)
 
 // The code of the statement of node n, as the instructions from i on of code that begins at label start.
 // Returns the number of the instruction after it. What a test jumps over is written before the test.
-fn emit(t: &[u32], n: u32, start: u32, room: &mut [u32], i: u32) -> u32
-    requires { ⌜ Fits (now t) n start (length (now room)) i ⌝ }
-    ensures { λ r. ⌜ Written (stmAt (now (t .entry)) n) start i (now (room .entry)) (now (room .exit)) r ⌝ }
+// It takes the table by a reference to its slice, which is one pointer: less stack for each level of nesting.
+fn emit(t: &&[u32], n: u32, start: u32, room: &mut [u32], i: u32) -> u32
+    requires { ⌜ Fits (now (now t)) n start (length (now room)) i ⌝ }
+    ensures { λ r. ⌜ Written (stmAt (now (now (t .entry))) n) start i (now (room .entry)) (now (room .exit)) r ⌝ }
 {
     let d = load(t, n);
     let kind = d.kind;
@@ -155,7 +156,8 @@ fn write_code(table: &[u32], start: u32, room: &mut [u32]) -> u32
     ensures { λ r. ⌜ Written (stmAt (now (table .entry)) (root (now (table .entry)))) start 0 (now (room .entry)) (now (room .exit)) r ⌝ }
 {
     let root = (table.len() / 4 - 1) as u32;
-    emit(table, root, start, room, 0)
+    let words = table;
+    emit(&words, root, start, room, 0)
 }
 
 fn refused(number: u32) -> Compiled

@@ -222,7 +222,7 @@ fn step(t: &&[u32], c: &[u32], k: usize, store: &mut [i32; 32]) -> Spot
         }
         2 => jump(c, y),
         _ => {
-            if evaluate::boolean(t, store, x) {
+            if evaluate::truth_of(t, store, x) {
                 after(c, k)
             } else {
                 jump(c, y)

@@ -144,3 +144,21 @@ pub fn value_of(t: &&[u32], s: &[i32; 32], n: usize) -> i32
     }
     arith(t, s, n)
 }
+
+// The same as `boolean`, for a whole test: most compare two leaves, and need no call.
+pub fn truth_of(t: &&[u32], s: &[i32; 32], n: usize) -> bool
+    requires { ⌜ Ready (now (now t)) n booleans ⌝ }
+    ensures { λ r. ⌜ r ≡ meaning (now (now (t .entry))) .holds n (now (s .entry)) ⌝ }
+{
+    let k = word(t, n, 0);
+    if (18 <= k) & (k <= 20) {
+        let p = place(t, n, 1);
+        let q = place(t, n, 2);
+        let first = word(t, p, 0);
+        let second = word(t, q, 0);
+        if (first <= 2) & (second <= 2) {
+            return compare(k, leaf(t, s, p, first), leaf(t, s, q, second));
+        }
+    }
+    boolean(t, s, n)
+}

@@ -23,14 +23,14 @@ use Rattle.compiler.proofs.put_ifnot.Reads as put-ifnot-reads
 use Rattle.compiler.proofs.+emit.{statement}
 use Rattle.compiler.proofs.+emit.Tie.{close}
 
-abbrev μ-emit : Measures 2 emit-kinds.ps ℕ
+abbrev μ-emit : Measures 3 emit-kinds.ps ℕ
 μ-emit κs a = a .1 .0
 
-abbrev emit-at : ℕ → In 2 emit-kinds.ps
-emit-at t = and 2 emit-kinds.ps (is 2 emit-kinds.ps μ-emit t) emit.Pre
+abbrev emit-at : ℕ → In 3 emit-kinds.ps
+emit-at t = and 3 emit-kinds.ps (is 3 emit-kinds.ps μ-emit t) emit.Pre
 
-abbrev emit-below : ℕ → In 2 emit-kinds.ps
-emit-below t = and 2 emit-kinds.ps (falls 2 emit-kinds.ps _<_ μ-emit t) emit.Pre
+abbrev emit-below : ℕ → In 3 emit-kinds.ps
+emit-below t = and 3 emit-kinds.ps (falls 3 emit-kinds.ps _<_ μ-emit t) emit.Pre
 
 abbrev known : ℕ → emit-lts.Claims
 known t = (
@@ -50,22 +50,22 @@ known t = (
 
 module _ (t : ℕ) (l : emit-lts.After-load (known t) (emit-at t) emit.Post) where
   abbrev table : List ℕ
-  table = l .before .before .before .args .t .now
+  table = l .before .before .args .t .now .now
 
   abbrev node : ℕ
-  node = l .before .before .before .args .n
+  node = l .before .before .args .n
 
   abbrev start : ℕ
-  start = l .before .before .before .args .start
+  start = l .before .before .args .start
 
   abbrev room : ℕ
-  room = length (l .before .before .before .args .room .now)
+  room = length (l .before .before .args .room .now)
 
   abbrev index : ℕ
-  index = l .before .before .before .args .i
+  index = l .before .before .args .i
 
   abbrev fit : Fits table node start room index
-  fit = l .before .before .before .pre .1
+  fit = l .before .before .pre .1
 
   abbrev p : ℕ
   p = l .load .result .p
@@ -90,7 +90,7 @@ module _ (t : ℕ) (l : emit-lts.After-load (known t) (emit-at t) emit.Post) whe
 
 module _ (t : ℕ) where
   load-requires : emit-lts.Need-load-requires (known t) (emit-at t) emit.Post
-  load-requires c κs = in-table (c .before .before .pre .1)
+  load-requires c κs = in-table (c .before .pre .1)
 
   -- ---- an assign
 
