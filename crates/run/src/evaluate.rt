@@ -23,7 +23,7 @@ pub fn place(t: &&[u32], n: usize, i: usize) -> usize
     word(t, n, i) as usize
 }
 
-// The operation of kind k, 3 to 7. By tests: a jump through a table is foretold worse.
+// The operation of kind k, 3 to 7. By tests, which measure faster than a `match`: that becomes a jump through a table.
 fn apply(k: u32, a: i32, b: i32) -> i32
     requires { ⌜ (3 ≤ k) × (k ≤ 7) ⌝ }
     ensures { λ r. ⌜ r ≡ applied (operatorOf k) a b ⌝ }
