@@ -14,7 +14,7 @@ use Rattle.rules.specs.Expression.{Store}
 use Rattle.rules.specs.Table.{Kind, Class, arithmetic, boolean, field, kindOf, meaning}
 use Rattle.rules.proofs.TableLaws.{accepted-facts, NodeAs, node-as, Child, arithmetic-range, boolean-range}
 use Rattle.value.proofs.Machine.{back, read-back}
-use Rattle.run.specs.Ready.{Within, Ready, Of}
+use Rattle.run.specs.Ready.{Within, Ready, Value, Of}
 
 -- node n is as its kind says, with its words as the table has them
 abbrev pub As : Kind → List ℕ → ℕ → Type 0
@@ -42,6 +42,9 @@ module _ {t : List ℕ} {n : ℕ} {c : Class} (ready : Ready t n c) where
   pub arith-answer : (σ : Store) {v w : ℕ} {r : ℤ} → mag r < 2147483648 → r ≡ meaning t .arith w σ → w ≡ v → back w32 r ≡ meaning t .arith v σ
   arith-answer σ h e f = read-back _ h ∙ e ∙ ap (λ x. meaning t .arith x σ) f
 
+  pub value-answer : (σ : Store) {v w : ℕ} {r : ℤ} → mag r < 2147483648 → r ≡ meaning t .arith w σ → w ≡ v → Value t v σ (back w32 r)
+  value-answer σ h e f = record { is = arith-answer σ h e f; small = rw (read-back _ h) h }
+
   pub boolean-answer : (σ : Store) {v w : ℕ} {b : Bool} → b ≡ meaning t .holds w σ → w ≡ v → b ≡ meaning t .holds v σ
   boolean-answer σ e f = e ∙ ap (λ x. meaning t .holds x σ) f
 
@@ -59,6 +62,10 @@ last-boolean k class e a b c = by (leb 18 k) refl
     by : (low : Bool) → leb 18 k ≡ low → k ≡ 22
     by true h = let high = leb-false k 20 (rw h at e) in omega (arith, class .0, class .1, high, c)
     by false h = omega (arith, class .0, leb-false 18 k h, a, b)
+
+-- a value that is passed on is read back as it was
+pub passed : {t : List ℕ} {n : ℕ} {σ : Store} {r : ℤ} → Value t n σ r → back w32 r ≡ meaning t .arith n σ
+passed v = read-back _ (v .small) ∙ v .is
 
 -- a statement node of a known kind
 pub of-kind : {t : List ℕ} {n : ℕ} {k : Kind} → Of t n k → As k t n

@@ -5,7 +5,7 @@ ghost use Prim.Native.Nat.{_<_};
 ghost use Rattle.rules.specs.Table.{nodes, rowAt};
 ghost use Rattle.table.specs.Steps.{rowCode, Rows};
 
-pub const ROWS: [u32; 37] = [
+pub(crate) const ROWS: [u32; 37] = [
     0x3444,
     0x0544, // 1 number
     0x0644, // 2 variable
@@ -46,7 +46,7 @@ pub const ROWS: [u32; 37] = [
 ];
 
 // The row of node n. The rows are lent, so that they are laid down once for a whole check and not at every look.
-pub fn row_at(t: &[u32], rows: &[u32; 37], n: usize) -> u32
+pub(crate) fn row_at(t: &[u32], rows: &[u32; 37], n: usize) -> u32
     requires { ⌜ (n < nodes (now t)) × Rows (now rows) ⌝ }
     ensures { λ r. ⌜ r ≡ rowCode (rowAt (now (t .entry)) n) ⌝ }
 {

@@ -117,7 +117,7 @@ fn too_deep() {
     case_of(b"8 before 9: ", &t, 259);
 }
 
-pub fn cases() {
+pub(crate) fn cases() {
     show::say(b"-- the table check\n");
     counts();
     kinds();

@@ -162,7 +162,7 @@ fn orders() {
     case(b"13: ", &bad, 65535, 0, 5);
 }
 
-pub fn cases() {
+pub(crate) fn cases() {
     show::say(b"-- code runs\n");
     compiled();
     gaps();

@@ -57,7 +57,7 @@ fn frames() {
     );
 }
 
-pub fn cases() {
+pub(crate) fn cases() {
     show::say(b"-- compiling\n");
     labels();
     rooms();

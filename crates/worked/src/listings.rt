@@ -36,7 +36,7 @@ fn codes() {
     );
 }
 
-pub fn cases() {
+pub(crate) fn cases() {
     show::say(b"-- listings\n");
     refusals();
     codes();

@@ -7,7 +7,7 @@ use rules::Refusal;
 use rules::SourceRun;
 use rules::Text;
 
-pub fn say(text: &[u8]) {
+pub(crate) fn say(text: &[u8]) {
     io::write_all(1, text);
 }
 
@@ -35,14 +35,14 @@ fn halted(verdict: &[u8], h: Halt) {
     amount(b", steps ", h.steps);
 }
 
-pub fn checked(answer: Checked) {
+pub(crate) fn checked(answer: Checked) {
     match answer {
         Checked::Done => say(b"done\n"),
         Checked::Refused(r) => refused(r),
     }
 }
 
-pub fn compiled(answer: Compiled) {
+pub(crate) fn compiled(answer: Compiled) {
     match answer {
         Compiled::Done(m) => {
             say(b"done, instructions ");
@@ -53,7 +53,7 @@ pub fn compiled(answer: Compiled) {
     }
 }
 
-pub fn source_run(answer: SourceRun) {
+pub(crate) fn source_run(answer: SourceRun) {
     match answer {
         SourceRun::Finished(steps) => amount(b"finished, steps ", steps),
         SourceRun::OutOfFuel(steps) => amount(b"out of fuel, steps ", steps),
@@ -61,7 +61,7 @@ pub fn source_run(answer: SourceRun) {
     }
 }
 
-pub fn code_run(answer: CodeRun) {
+pub(crate) fn code_run(answer: CodeRun) {
     match answer {
         CodeRun::Finished(h) => halted(b"finished at ", h),
         CodeRun::OutOfFuel(h) => halted(b"out of fuel at ", h),
@@ -69,7 +69,7 @@ pub fn code_run(answer: CodeRun) {
     }
 }
 
-pub fn text(answer: Text) {
+pub(crate) fn text(answer: Text) {
     match answer {
         Text::Done(n) => amount(b"done, ", n),
         Text::Refused(r) => refused(r),
@@ -88,19 +88,19 @@ fn value(v: i32) {
 }
 
 // Eight words, as two lines of text.
-pub fn words(words: &[u32; 8]) {
+pub(crate) fn words(words: &[u32; 8]) {
     let mut lines = [0u8; 66];
     text::write_text(words, &mut lines);
     say(&lines);
 }
 
-pub fn bytes(bytes: &[u8; 34]) {
+pub(crate) fn bytes(bytes: &[u8; 34]) {
     say(bytes);
     say(b"\n");
 }
 
 // The first two values of a store.
-pub fn variables(store: &[i32; 32]) {
+pub(crate) fn variables(store: &[i32; 32]) {
     say(b"  v0 = ");
     value(store[0]);
     say(b", v1 = ");

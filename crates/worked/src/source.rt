@@ -138,7 +138,7 @@ fn stores() {
     show::source_run(run::run_source(&[32, 0, 0, 0, 32, 0, 0, 0], &mut none, 5));
 }
 
-pub fn cases() {
+pub(crate) fn cases() {
     show::say(b"-- source runs\n");
     wrapping();
     quotients();

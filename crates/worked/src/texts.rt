@@ -117,7 +117,7 @@ fn whole() {
     show::text(text::write_text(&[0; 4096], &mut bytes));
 }
 
-pub fn cases() {
+pub(crate) fn cases() {
     show::say(b"-- text\n");
     reading();
     many_lines();
