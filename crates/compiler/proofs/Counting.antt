@@ -16,7 +16,8 @@ use Rattle.rules.specs.Table.{skip, assign, sequence, if, while, unknown}
 use Rattle.rules.specs.Table.{field, nodes, kindOf, kindAt, rowOf, Class, arithmetic, boolean, statement}
 use Rattle.rules.specs.Table.{Tree, treeBy, stmOf, childIn, children, program}
 use Rattle.rules.proofs.ListLaws.{every-true}
-use Rattle.rules.proofs.TableLaws.{Child, NodeAs, Facts, node-as, tree-at, kind-past}
+use Rattle.rules.proofs.KindLaws.{kind-past}
+use Rattle.rules.proofs.TableLaws.{Child, NodeAs, Facts, node-as, tree-at}
 use Rattle.rules.proofs.Bound.{sum, counted, over-nodes}
 use Rattle.compiler.specs.Writing.{stmAt, adds}
 

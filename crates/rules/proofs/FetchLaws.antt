@@ -16,10 +16,12 @@ use Rattle.rules.specs.Lists.{fetch, joined}
 use Rattle.rules.specs.Goto.{Instr, _≔_, goto, ifnot, _∈_, Wellformed}
 use Rattle.rules.specs.Table.{field, nodes, rowAt, rank, Class, arithmetic, boolean, statement, no-class, isClass}
 use Rattle.rules.specs.Refusal.{refusal, fine, refuse, refuseLowest, _orElse_}
-use Rattle.rules.specs.CodeWords.{part, instructions, instrOf, codeOf, wholeCode, isNode, fieldsFit, rises, codeFault, codeRefusal}
+use Rattle.rules.specs.CodeWords.{width, part, instructions, instrOf, instrAt, codeOf}
+use Rattle.rules.specs.CodeWords.{wholeCode, isNode, fieldsFit, rises, Rising, codeFault, codeRefusal}
 use Rattle.rules.proofs.ListLaws.{one-more, and-true, true-and, cond-fine, refuse-none, orElse-none}
 use Rattle.rules.proofs.ListLaws.{refuseLowest-none, none-refuseLowest, some-refuseLowest}
-use Rattle.rules.proofs.TableLaws.{is-class, class-is, Ranges, is-arithmetic, is-boolean, is-statement, is-none, ranges}
+use Rattle.rules.proofs.TableLaws.{is-class, class-is}
+use Rattle.rules.proofs.KindLaws.{Ranges, is-arithmetic, is-boolean, is-statement, is-none, ranges}
 use Rattle.rules.proofs.GotoLaws.{fetches, outside}
 
 -- ---- what 13 asks, read as facts
@@ -34,11 +36,8 @@ pub data Fields (t : List ℕ) (o x y : ℕ) : Type 0 where
   jumps : o ≡ 2 → x ≡ 0 → y ≤ 65535 → Fields t o x y
   tests : o ≡ 3 → Node t boolean x → y ≤ 65535 → Fields t o x y
 
-abbrev pub Rising : List ℕ → Type 0
-Rising c = (j k : ℕ) → j < k → k < instructions c → part c j 0 < part c k 0
-
 pub record CodeFacts (t c : List ℕ) : Type 0 where
-  pub whole : 4 * instructions c ≡ length c
+  pub whole : width * instructions c ≡ length c
   pub few : instructions c ≤ 1024
   pub label : (k : ℕ) → k < instructions c → part c k 0 ≤ 65534
   pub fields : (k : ℕ) → k < instructions c → Fields t (part c k 1) (part c k 2) (part c k 3)
@@ -158,9 +157,9 @@ module _ (t c : List ℕ) where
   unfolding codeRefusal wholeCode
   code-facts e =
       let both = orElse-none _ _ e in
-      let counted = and-true (eqb (length c % 4) 0) (leb (length c) 4096) (not-false _ (refuse-none _ 13 0 (both .0))) in
-      let divides : length c % 4 ≡ 0 = eqb-true _ _ (counted .0) in
-      let short : length c ≤ 4096 = leb-true _ _ (counted .1) in
+      let counted = and-true (eqb (length c % width) 0) (leb (length c) (width * 1024)) (not-false _ (refuse-none _ 13 0 (both .0))) in
+      let divides : length c % width ≡ 0 = eqb-true _ _ (counted .0) in
+      let short : length c ≤ width * 1024 = leb-true _ _ (counted .1) in
       let each : (k : ℕ) → k < instructions c → Fine k = λ k l. fine-at k (refuseLowest-none (codeFault t c) (instructions c) (both .1) k l) in
       record {
         whole = omega arith;
@@ -173,8 +172,8 @@ module _ (t c : List ℕ) where
   pub facts-code : CodeFacts t c → codeRefusal t c ≡ none
   unfolding codeRefusal wholeCode refuse _orElse_
   facts-code f =
-      let divides : length c % 4 ≡ 0 = omega (arith, f .whole) in
-      let short : length c ≤ 4096 = omega (arith, f .whole, f .few) in
+      let divides : length c % width ≡ 0 = omega (arith, f .whole) in
+      let short : length c ≤ width * 1024 = omega (arith, f .whole, f .few) in
       rw (eq-eqb _ _ divides, le-leb _ _ short)
       (none-refuseLowest (codeFault t c) (instructions c)
       (λ k l. at-fine k (record { label = f .label k l; fields = f .fields k l; rise = true-rises (f .rising) k l })))
@@ -253,10 +252,6 @@ row-in f zero k h = absurd (omega arith)
 row-in {A} f (suc n) k h =
     one-more {P = λ k. List·Memᴰ (f k) (joined (λ k. f k ∷ []) n ++ (f n ∷ []))} n
     (λ k l. Memᴰ·append-left (f n ∷ []) (row-in f n k l)) (Memᴰ·append-right (joined (λ k. f k ∷ []) n) (List·Memᴰ·head refl)) k h
-
--- instruction k of the words
-abbrev pub instrAt : List ℕ → ℕ → Instr
-instrAt c k = instrOf (part c k 1) (part c k 2) (part c k 3)
 
 module _ (c : List ℕ) where
   pub instr-in : (k : ℕ) → k < instructions c → (part c k 0, instrAt c k) ∈ codeOf c

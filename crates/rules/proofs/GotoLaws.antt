@@ -1,10 +1,10 @@
 -- The code run follows Fig. 1: determinacy, stuck states and extension of the domain (Lemmas 1 to 3), and the run within fuel as a
 -- sequence of published steps of the length it says. Assumes nothing.
-use mathlib.Core.Path.{_≡_, refl, sym, ap, ap₂, subst, _∙_}
-use Prim.Native.Nat.{ℕ, zero, suc, _+_, _-_, _≤_, _<_}
+use mathlib.Core.Path.{_≡_, refl, sym, ap, ap₂, _∙_}
+use Prim.Native.Nat.{ℕ, zero, suc, _+_, _-_, _≤_}
 use native.Mathlib.Omega.{arith}
 use mathlib.Core.Bool.{Bool, true, false}
-use mathlib.Core.List.{List, [], _∷_, _++_, List·Memᴰ, List·Memᴰ·head, List·Memᴰ·tail, List·Memᴰ·not-nil, List·Memᴰ·cases-cons}
+use mathlib.Core.List.{[], _∷_, List·Memᴰ·head, List·Memᴰ·tail, List·Memᴰ·not-nil, List·Memᴰ·cases-cons}
 use mathlib.Core.Logic.{_⊎_, inl, inr, _↔_}
 use mathlib.Core.Option.{Option, none, some}
 use lib.Dec.{eqb}
@@ -12,7 +12,7 @@ use lib.ListN.{length, length-set}
 use borrow.Author.Tests.{eq-eqb, ne-eqb, eqb-true, eqb-false}
 use Rattle.rules.specs.Lists.{fetch}
 use Rattle.rules.specs.Expression.{Store}
-use Rattle.rules.specs.While.{Meaning, assigned}
+use Rattle.rules.specs.While.{Meaning}
 use Rattle.rules.specs.Goto.{Instr, _≔_, goto, ifnot, Code, _∈_, InDom, Wellformed, Step, assign-ss, goto-ss}
 use Rattle.rules.specs.Goto.{ifngoto-tt-ss, ifngoto-ff-ss, Steps, none-yet, one-more, Stuck, Halted, finished}
 use Rattle.rules.specs.Goto.{out, nextLabel, nextStore, run}

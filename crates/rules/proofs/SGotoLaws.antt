@@ -1,8 +1,8 @@
 -- SGoto: the natural semantics of Fig. 2 agrees with the steps of Fig. 1 on the code forgotten (Theorems 6 and 7), is deterministic and
 -- ends outside its domain (Lemmas 4 and 5), and compilation preserves and reflects evaluations (Theorems 15 and 16). The last two come
 -- from the simulation: it relates the While rules to Fig. 1, and Theorems 6 and 7 relate Fig. 1 to Fig. 2. Assumes nothing.
-use mathlib.Core.Path.{_≡_, refl, sym, ap, ap₂, subst, _∙_}
-use Prim.Native.Nat.{ℕ, zero, suc, _+_, _-_, _≤_, _<_}
+use mathlib.Core.Path.{_≡_, refl, sym, ap, ap₂, _∙_}
+use Prim.Native.Nat.{ℕ, zero, suc, _+_, _<_}
 use native.Mathlib.Omega.{arith}
 use native.Mathlib.Decide.{ℕ-discrete}
 use mathlib.Core.Bool.{Bool, true, false}
@@ -12,11 +12,11 @@ use mathlib.Core.Option.{none}
 use Rattle.rules.specs.Lists.{fetch}
 use Rattle.rules.specs.Expression.{Store}
 use Rattle.rules.specs.While.{Stm, Meaning, Evaluates, count}
-use Rattle.rules.specs.Goto.{Instr, _≔_, goto, ifnot, Code, _∈_, InDom, Wellformed, Step, Steps, none-yet}
+use Rattle.rules.specs.Goto.{Instr, _≔_, goto, ifnot, Code, _∈_, InDom, Wellformed, Steps, none-yet}
 use Rattle.rules.specs.Goto.{one-more, Stuck, nextLabel, nextStore, finished, run}
 use Rattle.rules.specs.SGoto.{SCode, single, 𝟎, _⊕_, Dom, WellformedS, U, EvaluatesS, assign-ns, goto-ns}
 use Rattle.rules.specs.SGoto.{ifngoto-tt-ns, ifngoto-ff-ns, ⊕₀-ns, ⊕₁-ns, ood-ns}
-use Rattle.rules.specs.Compilation.{Compiles, size, compile}
+use Rattle.rules.specs.Compilation.{Compiles, compile}
 use Rattle.rules.proofs.GotoLaws.{Takes, takes, taken, can-step, bears, stuck-outside, extend, run-steps, run-finished, outside}
 use Rattle.rules.proofs.CompilationLaws.{known, compiled-code, compile-wellformed, dom-code, interval, compiled-wellformed}
 use Rattle.rules.proofs.Simulation.{reaches, piece-contains, demand-3}
@@ -158,8 +158,8 @@ module _ (M : Meaning) where
       }
       go (no f) t l = record { label = ℓ; store = σ; taken-in = zero; left = suc k; inner = none-yet; gone = f; outer = one-more s r; sum = omega arith; some-taken = λ d. absurd (f d) }
 
-  -- every stuck reduction sequence of the piece is an evaluation
-  abbrev pub Reflects : SCode → Type 0
+  -- every reduction sequence of the piece that leaves its domain is an evaluation
+  abbrev Reflects : SCode → Type 0
   Reflects sc = (k ℓ ℓ′ : ℕ) (σ σ′ : Store) → Steps M (U sc) k ℓ σ ℓ′ σ′ → (Dom sc ℓ′ → ⊥) → EvaluatesS M sc ℓ σ ℓ′ σ′
 
   module _ (sc₀ sc₁ : SCode) (apart : (m : ℕ) → Dom sc₀ m → Dom sc₁ m → ⊥) (first : Reflects sc₀) (second : Reflects sc₁) where
@@ -187,13 +187,18 @@ module _ (M : Meaning) where
             let end = stays-put r (λ d. ⊎-elim f g (dom-code (sc₀ ⊕ sc₁) ℓ .1 d)) in
             evaluates-at refl refl (end .0) (end .1) (ood-ns (⊎-elim f g))
 
-  -- Theorem 7 (reflection of stuck reduction sequences as evaluations)
-  pub reduction-evaluates : (sc : SCode) → WellformedS sc → Reflects sc
+  reflects : (sc : SCode) → WellformedS sc → Reflects sc
   unfolding U WellformedS Dom
-  reduction-evaluates (single ℓ₀ i) wf k ℓ ℓ′ σ σ′ r n = single-evaluates ℓ₀ i r n
-  reduction-evaluates 𝟎 wf k ℓ ℓ′ σ σ′ r n = let end = stays-put r (λ d. List·Memᴰ·not-nil (d .1)) in evaluates-at refl refl (end .0) (end .1) (ood-ns (λ d. d))
-  reduction-evaluates (sc₀ ⊕ sc₁) wf k ℓ ℓ′ σ σ′ r n =
-      union-evaluates sc₀ sc₁ (wf .2) (reduction-evaluates sc₀ (wf .0)) (reduction-evaluates sc₁ (wf .1)) (suc k) k ℓ ℓ′ σ σ′ (omega arith) r n
+  reflects (single ℓ₀ i) wf k ℓ ℓ′ σ σ′ r n = single-evaluates ℓ₀ i r n
+  reflects 𝟎 wf k ℓ ℓ′ σ σ′ r n = let end = stays-put r (λ d. List·Memᴰ·not-nil (d .1)) in evaluates-at refl refl (end .0) (end .1) (ood-ns (λ d. d))
+  reflects (sc₀ ⊕ sc₁) wf k ℓ ℓ′ σ σ′ r n =
+      union-evaluates sc₀ sc₁ (wf .2) (reflects sc₀ (wf .0)) (reflects sc₁ (wf .1)) (suc k) k ℓ ℓ′ σ σ′ (omega arith) r n
+
+  -- Theorem 7 (reflection of stuck reduction sequences as evaluations)
+  pub reduction-evaluates : (sc : SCode) → WellformedS sc → {ℓ ℓ′ : ℕ} {σ σ′ : Store} → Reduces (U sc) ℓ σ ℓ′ σ′ → Stuck M (U sc) ℓ′ σ′
+      → EvaluatesS M sc ℓ σ ℓ′ σ′
+  reduction-evaluates sc wf {ℓ} {ℓ′} {σ} {σ′} r stuck =
+      reflects sc wf (r .0) ℓ ℓ′ σ σ′ (r .1) (λ d. stuck-outside M (U sc) ℓ′ σ′ .0 stuck (dom-code sc ℓ′ .0 d))
 
   -- Lemma 4 (determinacy): two stuck sequences of a wellformed code end alike
   wellformed-code : (sc : SCode) → WellformedS sc → Wellformed (U sc)
@@ -229,7 +234,7 @@ module _ (M : Meaning) where
   pub preservation : {s : Stm} {ℓ ℓ′ : ℕ} {sc : SCode} {σ σ′ : Store} → Compiles s ℓ sc ℓ′ → Evaluates M s σ σ′ → EvaluatesS M sc ℓ σ ℓ′ σ′
   preservation {s} {ℓ} {ℓ′} {sc} {σ} {σ′} c d =
       let steps : Steps M (U sc) (count d) ℓ σ ℓ′ σ′ = rw (compiled-code c, known c .end) (reaches M (compile s ℓ) s ℓ (piece-contains s ℓ) d) in
-      reduction-evaluates sc (compiled-wellformed c) (count d) ℓ ℓ′ σ σ′ steps (λ h. omega (arith, interval c .inside ℓ′ h .1))
+      reflects sc (compiled-wellformed c) (count d) ℓ ℓ′ σ σ′ steps (λ h. omega (arith, interval c .inside ℓ′ h .1))
 
   -- Theorem 16 (reflection of evaluations)
   pub reflection : {s : Stm} {ℓ ℓ′ ℓ″ : ℕ} {sc : SCode} {σ σ′ : Store} → Compiles s ℓ sc ℓ′ → EvaluatesS M sc ℓ σ ℓ″ σ′

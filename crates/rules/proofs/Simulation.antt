@@ -1,16 +1,16 @@
 -- Compiled code follows its source. The argument is made once, for any code that contains the compiled piece of a statement from ℓ up to
 -- e = ℓ + size s, whatever else stands below ℓ or from e up: the run from ℓ is at e with the While store after exactly the While count of
 -- steps, or out of fuel inside the piece with the unfinished store. Demand 3 on the definitions is a corollary. Assumes nothing.
-use mathlib.Core.Path.{_≡_, refl, sym, ap, subst, _∙_}
+use mathlib.Core.Path.{_≡_, refl, sym, ap, _∙_}
 use Prim.Native.Nat.{ℕ, zero, suc, _+_, _-_, _≤_, _<_}
 use native.Mathlib.Omega.{arith}
 use mathlib.Core.Bool.{Bool, true, false}
-use mathlib.Core.List.{[], _∷_, _++_, List·Memᴰ·head, List·Memᴰ·tail, Memᴰ·append-left, Memᴰ·append-right}
+use mathlib.Core.List.{List·Memᴰ·head, List·Memᴰ·tail, Memᴰ·append-left, Memᴰ·append-right}
 use mathlib.Core.Option.{Option, none, some}
 use Rattle.rules.specs.Lists.{fetch}
 use Rattle.rules.specs.Expression.{Store}
 use Rattle.rules.specs.While.{Stm, skip, assign, seq, if, while, Meaning, Evaluates, count, Unfinished, Outcome, done, stop, andThen, spend, passes, exec}
-use Rattle.rules.specs.Goto.{Instr, _≔_, goto, ifnot, Code, _∈_, InDom, Wellformed, Steps, Halted, finished, out, nextLabel, nextStore, run}
+use Rattle.rules.specs.Goto.{Instr, _≔_, goto, ifnot, Code, _∈_, Steps, Halted, finished, out, nextLabel, nextStore, run}
 use Rattle.rules.specs.Compilation.{size, compile}
 use Rattle.rules.proofs.WhileLaws.{AtMost, some-left, none-left, at-most, says, finds, stops, decides, EvaluatesWithin}
 use Rattle.rules.proofs.GotoLaws.{finished-steps, out-steps, run-step, run-out, run-finished, fetches, outside}

@@ -1,25 +1,22 @@
 -- The theory of tables: what acceptance gives, node by node, and what the tree of an accepted node is in terms of its children.
-use mathlib.Core.Path.{_≡_, refl, ap, ap₂, sym, _∙_}
-use mathlib.Core.Bool.{Bool, true, false, not, cond, _&&_}
+use mathlib.Core.Path.{_≡_, refl, ap, ap₂, _∙_}
+use mathlib.Core.Bool.{Bool, true, false, not, cond}
 use mathlib.Core.List.{List, [], _∷_, _++_}
-use mathlib.Core.Option.{Option, none, some}
-use Prim.Native.Nat.{ℕ, zero, suc, _+_, _*_, _/_, _%_, _-_, _<_, _≤_, min, max}
-use mathlib.Core.Logic.{⊎-elim}
-use native.Mathlib.Nat.{eq-or-lt-of-le}
+use Prim.Native.Nat.{ℕ, suc, _*_, _%_, _<_, _≤_, min, max}
 use native.Mathlib.Omega.{arith}
-use borrow.Author.Needs.{needs}
 use lib.Dec.{eqb, ltb, leb, lit≤}
-use lib.ListN.{length, getD}
-use borrow.Author.Tests.{eqb-true, eqb-false, eq-eqb, ne-eqb, ltb-true, ltb-false, lt-ltb, le-ltb, leb-true, leb-false, le-leb, lt-leb, not-false}
-use Rattle.rules.specs.Lists.{fetch, every, joined, below, at}
-use Rattle.rules.specs.Expression.{Operator, plus, minus, times, over, rest, Relation, equal, at-most, less}
-use Rattle.rules.specs.Table.{field, nodes, root, kinds, kindOf, kindAt, rowOf, rowAt, rank, isClass, Accepted}
+use lib.ListN.{length}
+use borrow.Author.Tests.{eqb-true, eqb-false, eq-eqb, ne-eqb, ltb-true, ltb-false, lt-ltb, le-ltb, leb-true, le-leb, not-false}
+use Rattle.rules.specs.Lists.{joined}
+use Rattle.rules.specs.Table.{field, nodes, root, kindAt, rowOf, rowAt, rank, isClass, Accepted}
 use Rattle.rules.specs.Table.{Kind, number, variable, choose, negation, both, skip, assign, sequence, if, while, unknown, binary, truth, compare}
-use Rattle.rules.specs.Table.{Class, arithmetic, boolean, statement, no-class, Slot, unused, any, var, child}
-use Rattle.rules.specs.Table.{Tree, treeBy, treeAt, arithOf, booleOf, stmOf, childIn, children, occurs, deepest, depthAt}
+use Rattle.rules.specs.Table.{Class, statement, no-class, Slot, unused, any, var, child}
+use Rattle.rules.specs.Table.{Tree, treeBy, treeAt, stmOf, childIn, children, occurs, deepest, depthAt}
 use Rattle.rules.specs.Table.{wholeTable, wordFault, nodeFault, onceFault, tableRefusal}
 use Rattle.rules.specs.Refusal.{fine, refuse, refuseLowest, _orElse_}
-use Rattle.rules.proofs.ListLaws.{and-true, every-true, refuse-none, orElse-none, refuseLowest-none, none-refuseLowest}
+use Rattle.rules.proofs.ListLaws.{and-true, refuse-none, orElse-none, refuseLowest-none, none-refuseLowest}
+use Rattle.rules.proofs.ListLaws.{at-is, below-is, Below, below-append}
+use Rattle.rules.proofs.KindLaws.{rank-is}
 
 -- ---- what a node's words are
 
@@ -40,22 +37,6 @@ pub record NodeFits (t : List ℕ) (n : ℕ) : Type 0 where
   pub p : Fills t n (rowAt t n .p) (field t n 1)
   pub q : Fills t n (rowAt t n .q) (field t n 2)
   pub r : Fills t n (rowAt t n .r) (field t n 3)
-
-unranked : ℕ → Class
-unranked zero = arithmetic
-unranked (suc zero) = boolean
-unranked (suc (suc zero)) = statement
-unranked (suc (suc (suc n))) = no-class
-
-rank-back : (c : Class) → unranked (rank c) ≡ c
-unfolding unranked
-rank-back arithmetic = refl
-rank-back boolean = refl
-rank-back statement = refl
-rank-back no-class = refl
-
-pub rank-is : (c d : Class) → rank c ≡ rank d → c ≡ d
-rank-is c d e = sym (rank-back c) ∙ ap unranked e ∙ rank-back d
 
 module _ (t : List ℕ) where
   pub is-class : (c : Class) (n : ℕ) → isClass t c n ≡ true → rowAt t n .class ≡ c
@@ -127,42 +108,7 @@ module _ (t : List ℕ) (n : ℕ) where
       (rw (fills-word (rowAt t n .p) (field t n 1) (f .p), fills-word (rowAt t n .q) (field t n 2) (f .q))
       (rw (fills-word (rowAt t n .r) (field t n 3) (f .r))))
 
--- ---- by the nodes below
-
-module _ {A : Type 0} (d : A) (f : ℕ → (ℕ → A) → A) where
-  pub at-is : (n : ℕ) → at d f n ≡ f n (below d f n)
-  unfolding below
-  at-is n = rw (eq-eqb n n refl, below)
-
-  pub below-past : (n p : ℕ) → n ≤ p → below d f n p ≡ d
-  unfolding below
-  below-past zero p h = refl
-  below-past (suc n) p h = rw (ne-eqb p n (λ e. omega arith), below) (below-past n p (omega arith))
-
-  pub below-is : (n p : ℕ) → p < n → below d f n p ≡ at d f p
-  unfolding below
-  below-is zero p h = absurd (omega arith)
-  below-is (suc n) p h = go (λ l. below-is n p l) (eqb p n) refl
-    where
-      past : (p ≡ n → ⊥) → below d f (suc n) p ≡ below d f n p
-      past ne = rw (ne-eqb p n ne, below)
-
-      go : (p < n → below d f n p ≡ at d f p) → (b : Bool) → eqb p n ≡ b → below d f (suc n) p ≡ at d f p
-      go r true e = ap (λ (j : ℕ). below d f (suc j) p) (sym (eqb-true p n e))
-      go r false e = let ne : p ≡ n → ⊥ = eqb-false p n e in past ne ∙ r (omega (arith, ne))
-
--- every number of a list is below b
-abbrev pub Below : ℕ → List ℕ → Type 0
-Below b [] = Unit {0}
-Below b (x ∷ xs) = (x < b) × Below b xs
-
-pub below-more : (b d : ℕ) (xs : List ℕ) → b ≤ d → Below b xs → Below d xs
-below-more b d [] h l = tt
-below-more b d (x ∷ xs) h l = (omega arith, below-more b d xs h (l .1))
-
-pub below-append : (b : ℕ) (xs ys : List ℕ) → Below b xs → Below b ys → Below b (xs ++ ys)
-below-append b [] ys h g = g
-below-append b (x ∷ xs) ys h g = (h .0, below-append b xs ys (h .1) g)
+-- ---- a node by the nodes below it
 
 child-below : (t : List ℕ) (n : ℕ) (s : Slot) (w : ℕ) → Fills t n s w → Below n (childIn s w)
 unfolding childIn
@@ -286,150 +232,9 @@ pub record NodeAs (t : List ℕ) (n : ℕ) (k : Kind) (p q r : ℕ) : Type 0 whe
   pub second : Fills t n (rowOf k .q) q
   pub third : Fills t n (rowOf k .r) r
 
--- the words of a node, as locals hold them
-pub record Words (t : List ℕ) (n w p q r : ℕ) : Type 0 where
-  pub is-kind : w ≡ field t n 0
-  pub is-p : p ≡ field t n 1
-  pub is-q : q ≡ field t n 2
-  pub is-r : r ≡ field t n 3
-
 module _ {t : List ℕ} {n : ℕ} where
   pub node-as : NodeFits t n → (k : Kind) → kindAt t n ≡ k → NodeAs t n k (field t n 1) (field t n 2) (field t n 3)
   node-as f k e = rw (← e) (record { kind = refl; tree = tree-at t n f; first = f .p; second = f .q; third = f .r })
 
-  pub words-as : {w p q r : ℕ} → NodeFits t n → Words t n w p q r → (k : Kind) → kindOf w ≡ k → NodeAs t n k p q r
-  words-as f w k e = rw (w .is-p, w .is-q, w .is-r) (node-as f k (ap kindOf (sym (w .is-kind)) ∙ e))
-
-  pub arith-as : {k : Kind} {p q r : ℕ} → NodeAs t n k p q r → arithOf (treeAt t n) ≡ arithOf (treeBy k p q r (treeAt t))
-  arith-as v = ap arithOf (v .tree)
-
-  pub boole-as : {k : Kind} {p q r : ℕ} → NodeAs t n k p q r → booleOf (treeAt t n) ≡ booleOf (treeBy k p q r (treeAt t))
-  boole-as v = ap booleOf (v .tree)
-
   pub stm-as : {k : Kind} {p q r : ℕ} → NodeAs t n k p q r → stmOf (treeAt t n) ≡ stmOf (treeBy k p q r (treeAt t))
   stm-as v = ap stmOf (v .tree)
-
--- ---- kinds by their numbers
-
-keys : {A : Type 0} → List (ℕ × A) → List ℕ
-keys [] = []
-keys (e ∷ es) = e .0 ∷ keys es
-
-fetch-past : {A : Type 0} (es : List (ℕ × A)) (b k : ℕ) → Below b (keys es) → b ≤ k → fetch es k ≡ none
-unfolding fetch keys
-fetch-past [] b k l h = refl
-fetch-past (e ∷ es) b k l h = rw (ne-eqb (e .0) k (λ q. omega arith), fetch) (fetch-past es b k (l .1) h)
-
-pub kind-past : (k : ℕ) → 36 < k → kindOf k ≡ unknown
-unfolding kindOf keys
-kind-past k h = rw (fetch-past kinds 37 k (search needs) h, kindOf)
-
--- "Kinds 1 to 8 are arithmetic, 16 to 22 boolean, 32 to 36 statements", as tests of the number
-abbrev within : ℕ → ℕ → ℕ → Bool
-within a b k = leb a k && leb k b
-
-unfoldable pub classOf : ℕ → Class
-classOf k = cond (within 1 8 k) arithmetic (cond (within 16 22 k) boolean (cond (within 32 36 k) statement no-class))
-
-class-small : (k : ℕ) → k < 37 → rowOf (kindOf k) .class ≡ classOf k
-unfolding every kindOf fetch rowOf classOf
-class-small k h = rank-is _ _ (eqb-true _ _ (every-true (λ k. eqb (rank (rowOf (kindOf k) .class)) (rank (classOf k))) 37 refl k h))
-
-class-large : (k : ℕ) → 37 ≤ k → rowOf (kindOf k) .class ≡ classOf k
-unfolding rowOf classOf
-class-large k h =
-    rw (kind-past k h, lt-leb k 8 (omega arith), lt-leb k 22 (omega arith), lt-leb k 36 (omega arith))
-    (rw (le-leb 1 k (omega arith), le-leb 16 k (omega arith), le-leb 32 k (omega arith)))
-
-pub class-of : (k : ℕ) → rowOf (kindOf k) .class ≡ classOf k
-class-of k = go (ltb k 37) refl
-  where
-    go : (b : Bool) → ltb k 37 ≡ b → rowOf (kindOf k) .class ≡ classOf k
-    go true e = class-small k (ltb-true k 37 e)
-    go false e = class-large k (ltb-false k 37 e)
-
--- the numbers of each class
-pub data Ranges (k : ℕ) : Class → Type 0 where
-  is-arithmetic : 1 ≤ k → k ≤ 8 → Ranges k arithmetic
-  is-boolean : 16 ≤ k → k ≤ 22 → Ranges k boolean
-  is-statement : 32 ≤ k → k ≤ 36 → Ranges k statement
-  is-none : (1 ≤ k → 8 < k) → (16 ≤ k → 22 < k) → (32 ≤ k → 36 < k) → Ranges k no-class
-
-pub ranges : (k : ℕ) → Ranges k (rowOf (kindOf k) .class)
-unfolding classOf
-ranges k = rw (class-of k) (go (within 1 8 k) (within 16 22 k) (within 32 36 k) (in-range 1 8) (in-range 16 22) (in-range 32 36))
-  where
-    Between : ℕ → ℕ → Bool → Type 0
-    Between a b true = (a ≤ k) × (k ≤ b)
-    Between a b false = a ≤ k → b < k
-
-    in-range : (a b : ℕ) → Between a b (within a b k)
-    in-range a b = test (leb a k) (leb k b) (leb-true a k) (leb-true k b) (leb-false a k) (leb-false k b)
-      where
-        test : (x y : Bool) → (x ≡ true → a ≤ k) → (y ≡ true → k ≤ b) → (x ≡ false → k < a) → (y ≡ false → b < k) → Between a b (x && y)
-        test true true f g f′ g′ = (f refl, g refl)
-        test true false f g f′ g′ = λ h. g′ refl
-        test false y f g f′ g′ = λ h. let l = f′ refl in absurd (omega arith)
-
-    go : (x y z : Bool) → Between 1 8 x → Between 16 22 y → Between 32 36 z → Ranges k (cond x arithmetic (cond y boolean (cond z statement no-class)))
-    go true y z f g h = is-arithmetic (f .0) (f .1)
-    go false true z f g h = is-boolean (g .0) (g .1)
-    go false false true f g h = is-statement (h .0) (h .1)
-    go false false false f g h = is-none f g h
-
-module _ (k : ℕ) where
-  pub arithmetic-range : rowOf (kindOf k) .class ≡ arithmetic → (1 ≤ k) × (k ≤ 8)
-  arithmetic-range e = go (rw e at (ranges k))
-    where
-      go : Ranges k arithmetic → (1 ≤ k) × (k ≤ 8)
-      go (is-arithmetic a b) = (a, b)
-
-  pub boolean-range : rowOf (kindOf k) .class ≡ boolean → (16 ≤ k) × (k ≤ 22)
-  boolean-range e = go (rw e at (ranges k))
-    where
-      go : Ranges k boolean → (16 ≤ k) × (k ≤ 22)
-      go (is-boolean a b) = (a, b)
-
-  pub statement-range : rowOf (kindOf k) .class ≡ statement → (32 ≤ k) × (k ≤ 36)
-  statement-range e = go (rw e at (ranges k))
-    where
-      go : Ranges k statement → (32 ≤ k) × (k ≤ 36)
-      go (is-statement a b) = (a, b)
-
-  pub range-arithmetic : 1 ≤ k → k ≤ 8 → rowOf (kindOf k) .class ≡ arithmetic
-  unfolding classOf
-  range-arithmetic a b = class-of k ∙ rw (le-leb 1 k a, le-leb k 8 b)
-
-  pub range-boolean : 16 ≤ k → k ≤ 22 → rowOf (kindOf k) .class ≡ boolean
-  unfolding classOf
-  range-boolean a b = class-of k ∙ rw (lt-leb k 8 (omega arith), le-leb 1 k (omega arith), le-leb 16 k a, le-leb k 22 b)
-
-  pub range-statement : 32 ≤ k → k ≤ 36 → rowOf (kindOf k) .class ≡ statement
-  unfolding classOf
-  range-statement a b =
-      class-of k
-      ∙ rw (lt-leb k 8 (omega arith), le-leb 1 k (omega arith), lt-leb k 22 (omega arith), le-leb 16 k (omega arith), le-leb 32 k a, le-leb k 36 b)
-
--- what holds of a, of a + 1 and so on, n numbers, holds of every number among them
-abbrev pub Run : (ℕ → Type 0) → ℕ → ℕ → Type 0
-Run P a zero = Unit {0}
-Run P a (suc n) = P a × Run P (suc a) n
-
-pub in-run : (P : ℕ → Type 0) (a n : ℕ) → Run P a n → (k : ℕ) → a ≤ k → k < a + n → P k
-in-run P a zero h k l m = absurd (omega arith)
-in-run P a (suc n) h k l m = ⊎-elim (λ (e : a ≡ k). rw (← e) (h .0)) (λ (g : a < k). in-run P (suc a) n (h .1) k g (omega arith)) (eq-or-lt-of-le l)
-
--- the operator of a kind from 3 to 7, and the relation of one from 18 to 20
-unfoldable pub operatorOf : ℕ → Operator
-operatorOf k = elim (fetch ((3, plus) ∷ (4, minus) ∷ (5, times) ∷ (6, over) ∷ (7, rest) ∷ []) k) [ some o ↦ o | none ↦ plus ]
-
-unfoldable pub relationOf : ℕ → Relation
-relationOf k = elim (fetch ((18, equal) ∷ (19, at-most) ∷ (20, less) ∷ []) k) [ some o ↦ o | none ↦ equal ]
-
-pub binary-kind : (k : ℕ) → 3 ≤ k → k ≤ 7 → kindOf k ≡ binary (operatorOf k)
-unfolding kindOf operatorOf fetch
-binary-kind k a b = in-run (λ k. kindOf k ≡ binary (operatorOf k)) 3 5 (refl, (refl, (refl, (refl, (refl, tt))))) k a (omega arith)
-
-pub compare-kind : (k : ℕ) → 18 ≤ k → k ≤ 20 → kindOf k ≡ compare (relationOf k)
-unfolding kindOf relationOf fetch
-compare-kind k a b = in-run (λ k. kindOf k ≡ compare (relationOf k)) 18 3 (refl, (refl, (refl, tt))) k a (omega arith)

@@ -3,9 +3,9 @@
 use mathlib.Core.Path.{_≡_, refl}
 use Prim.Native.Nat.{ℕ, _+_, _-_}
 use mathlib.Core.List.{List, [], _∷_, _++_, map}
-use mathlib.Core.Option.{Option, none, some}
+use mathlib.Core.Option.{none, some}
 use lib.IntN.{ℤ, pos, negsuc}
-use lib.ListN.{getD, replicate, set}
+use lib.ListN.{replicate}
 use Rattle.rules.specs.Lists.{fetch, lowest, joined, below}
 use Rattle.rules.specs.Value.{wrap, sum, difference, product, quotient, remainder, isEqual, isAtMost, isLess}
 use Rattle.rules.specs.Expression.{Store, apply, holds, valueIn}
@@ -19,10 +19,10 @@ use Rattle.rules.specs.CodeWords.{instrOf, codeOf, frameOf, wordsOf, who
 pub data Told : Type 0 where
   -- the code's words and the end label
   code : List ℕ → ℕ → Told
-  -- at a label, after so many steps, with v0 and v1
-  finished-at out-of-fuel-at : ℕ → ℕ → ℤ → ℤ → Told
+  -- at a label, after so many steps, with all values of the store
+  finished-at out-of-fuel-at : ℕ → ℕ → Store → Told
   -- the same of a source run
-  finished-in out-of-fuel-in : ℕ → ℤ → ℤ → Told
+  finished-in out-of-fuel-in : ℕ → Store → Told
   value : ℤ → Told
   refused : Told
 
@@ -37,12 +37,12 @@ compiled : List ℕ → ℕ → Told
 compiled t ℓ = elim (tableRefusal t) [ some r ↦ refused | none ↦ code (wordsOf (compile (program t) ℓ)) (ℓ + size (program t)) ]
 
 halted : ℕ → Halted → Told
-halted n (finished ℓ σ left) = finished-at ℓ (n - left) (getD σ 0 (pos 0)) (getD σ 1 (pos 0))
-halted n (out ℓ σ) = out-of-fuel-at ℓ n (getD σ 0 (pos 0)) (getD σ 1 (pos 0))
+halted n (finished ℓ σ left) = finished-at ℓ (n - left) σ
+halted n (out ℓ σ) = out-of-fuel-at ℓ n σ
 
 ended : ℕ → Outcome → Told
-ended n (done σ left) = finished-in (n - left) (getD σ 0 (pos 0)) (getD σ 1 (pos 0))
-ended n (stop σ) = out-of-fuel-in n (getD σ 0 (pos 0)) (getD σ 1 (pos 0))
+ended n (done σ left) = finished-in (n - left) σ
+ended n (stop σ) = out-of-fuel-in n σ
 
 ran : List ℕ → List ℕ → ℕ → Store → ℕ → Told
 ran t c ℓ σ n = elim (tableRefusal t orElse codeRefusal t c) [ some r ↦ refused | none ↦ halted n (run (meaning t) (codeOf c) n ℓ σ) ]
@@ -91,31 +91,31 @@ pub cases : List Run
 cases =
     -- skip at 7: no instructions, end 7; fuel 0 finishes at 7 in 0 steps
     (compiled skips 7 gives code [] 7)
-    ∷ (ran skips [] 7 (store (pos 0) (pos 0)) 0 gives finished-at 7 0 (pos 0) (pos 0))
+    ∷ (ran skips [] 7 (store (pos 0) (pos 0)) 0 gives finished-at 7 0 (store (pos 0) (pos 0)))
     -- skip; skip: no instructions
     ∷ (compiled two-skips 7 gives code [] 7)
     -- the listing; from v0 = 150, v1 = 0, fuel 13: finished at 5, 13 steps, v0 = -30, v1 = 3
     ∷ (compiled listing 1 gives code listing-code 5)
-    ∷ (ran listing listing-code 1 (store (pos 150) (pos 0)) 13 gives finished-at 5 13 (negsuc 29) (pos 3))
-    ∷ (source-ran listing (store (pos 150) (pos 0)) 13 gives finished-in 13 (negsuc 29) (pos 3))
+    ∷ (ran listing listing-code 1 (store (pos 150) (pos 0)) 13 gives finished-at 5 13 (store (negsuc 29) (pos 3)))
+    ∷ (source-ran listing (store (pos 150) (pos 0)) 13 gives finished-in 13 (store (negsuc 29) (pos 3)))
     -- the same, fuel 12: out of fuel at 1, same store
-    ∷ (ran listing listing-code 1 (store (pos 150) (pos 0)) 12 gives out-of-fuel-at 1 12 (negsuc 29) (pos 3))
-    ∷ (source-ran listing (store (pos 150) (pos 0)) 12 gives out-of-fuel-in 12 (negsuc 29) (pos 3))
+    ∷ (ran listing listing-code 1 (store (pos 150) (pos 0)) 12 gives out-of-fuel-at 1 12 (store (negsuc 29) (pos 3)))
+    ∷ (source-ran listing (store (pos 150) (pos 0)) 12 gives out-of-fuel-in 12 (store (negsuc 29) (pos 3)))
     -- the same from v0 = 0: 1 step with fuel 1; out of fuel with fuel 0
-    ∷ (ran listing listing-code 1 (store (pos 0) (pos 0)) 1 gives finished-at 5 1 (pos 0) (pos 0))
-    ∷ (ran listing listing-code 1 (store (pos 0) (pos 0)) 0 gives out-of-fuel-at 1 0 (pos 0) (pos 0))
-    ∷ (source-ran listing (store (pos 0) (pos 0)) 1 gives finished-in 1 (pos 0) (pos 0))
-    ∷ (source-ran listing (store (pos 0) (pos 0)) 0 gives out-of-fuel-in 0 (pos 0) (pos 0))
+    ∷ (ran listing listing-code 1 (store (pos 0) (pos 0)) 1 gives finished-at 5 1 (store (pos 0) (pos 0)))
+    ∷ (ran listing listing-code 1 (store (pos 0) (pos 0)) 0 gives out-of-fuel-at 1 0 (store (pos 0) (pos 0)))
+    ∷ (source-ran listing (store (pos 0) (pos 0)) 1 gives finished-in 1 (store (pos 0) (pos 0)))
+    ∷ (source-ran listing (store (pos 0) (pos 0)) 0 gives out-of-fuel-in 0 (store (pos 0) (pos 0)))
     -- an empty then branch at 10: ifnot to 12, goto 13, assign at 12, end 13; 2 steps either way
     ∷ (compiled empty-then 10 gives code empty-then-code 13)
-    ∷ (ran empty-then empty-then-code 10 (store (pos 0) (pos 0)) 2 gives finished-at 13 2 (pos 0) (pos 0))
-    ∷ (ran empty-then empty-then-code 10 (store (pos 5) (pos 0)) 2 gives finished-at 13 2 (pos 5) (pos 1))
+    ∷ (ran empty-then empty-then-code 10 (store (pos 0) (pos 0)) 2 gives finished-at 13 2 (store (pos 0) (pos 0)))
+    ∷ (ran empty-then empty-then-code 10 (store (pos 5) (pos 0)) 2 gives finished-at 13 2 (store (pos 5) (pos 1)))
     -- an empty else branch at 10: ifnot to 13, assign, goto 13, end 13; 3 steps from v0 = 5, 1 from 0
     ∷ (compiled empty-else 10 gives code empty-else-code 13)
-    ∷ (ran empty-else empty-else-code 10 (store (pos 5) (pos 0)) 3 gives finished-at 13 3 (pos 5) (pos 1))
-    ∷ (ran empty-else empty-else-code 10 (store (pos 0) (pos 0)) 1 gives finished-at 13 1 (pos 0) (pos 0))
+    ∷ (ran empty-else empty-else-code 10 (store (pos 5) (pos 0)) 3 gives finished-at 13 3 (store (pos 5) (pos 1)))
+    ∷ (ran empty-else empty-else-code 10 (store (pos 0) (pos 0)) 1 gives finished-at 13 1 (store (pos 0) (pos 0)))
     -- "4: goto 4", begun at 4, fuel 9: out of fuel at 4, 9 steps
-    ∷ (ran skips (frame 4 2 0 4) 4 (store (pos 0) (pos 0)) 9 gives out-of-fuel-at 4 9 (pos 0) (pos 0))
+    ∷ (ran skips (frame 4 2 0 4) 4 (store (pos 0) (pos 0)) 9 gives out-of-fuel-at 4 9 (store (pos 0) (pos 0)))
     -- 2147483647 + 1 = -2147483648; 65536 * 65536 = 0; -30 by 60 is 0, remainder -30; 7 by 0 is 0, remainder 7
     ∷ (value (sum (pos 2147483647) (pos 1)) gives value (negsuc 2147483647))
     ∷ (value (product (pos 65536) (pos 65536)) gives value (pos 0))

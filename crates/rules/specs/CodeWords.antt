@@ -1,5 +1,5 @@
 -- Code as words (01, "Code and its steps"): what a row of words means as code, the words of a piece of code, and refusal 13.
-use Prim.Native.Nat.{ℕ, zero, suc, _+_, _*_, _/_, _%_}
+use Prim.Native.Nat.{ℕ, zero, suc, _+_, _*_, _/_, _%_, _<_}
 use mathlib.Core.Bool.{Bool, true, not, cond, _&&_}
 use mathlib.Core.List.{List, [], _∷_, _++_}
 use mathlib.Core.Option.{Option}
@@ -7,7 +7,7 @@ use lib.Dec.{eqb, ltb, leb}
 use lib.ListN.{length, getD}
 use Rattle.rules.specs.Lists.{joined}
 use Rattle.rules.specs.Goto.{Instr, _≔_, goto, ifnot, Code}
-use Rattle.rules.specs.Table.{nodes, kindOf, rowOf, Class, arithmetic, boolean, isClass}
+use Rattle.rules.specs.Table.{nodes, Class, arithmetic, boolean, isClass}
 use Rattle.rules.specs.Refusal.{fine, refuse, refuseLowest, _orElse_}
 use Rattle.rules.specs.declared.Refusal.{Refusal}
 
@@ -25,8 +25,12 @@ instructions c = length c / width
 unfoldable pub instrOf : ℕ → ℕ → ℕ → Instr
 instrOf o x y = cond (eqb o 1) (x ≔ y) (cond (eqb o 2) (goto y) (ifnot x y))
 
+-- instruction k of the words, without its label
+abbrev pub instrAt : List ℕ → ℕ → Instr
+instrAt c k = instrOf (part c k 1) (part c k 2) (part c k 3)
+
 unfoldable pub codeOf : List ℕ → Code
-codeOf c = joined (λ k. (part c k 0, instrOf (part c k 1) (part c k 2) (part c k 3)) ∷ []) (instructions c)
+codeOf c = joined (λ k. (part c k 0, instrAt c k) ∷ []) (instructions c)
 
 -- and the other way: the words of an instruction, and of a piece of code
 unfoldable pub frameOf : ℕ → Instr → List ℕ
@@ -56,6 +60,9 @@ fieldsFit t o x y =
 unfoldable pub rises : List ℕ → ℕ → Bool
 rises c zero = true
 rises c (suc k) = ltb (part c k 0) (part c (suc k) 0)
+
+abbrev pub Rising : List ℕ → Type 0
+Rising c = (j k : ℕ) → j < k → k < instructions c → part c j 0 < part c k 0
 
 unfoldable pub codeFault : List ℕ → List ℕ → ℕ → ℕ
 codeFault t c k = cond (leb (part c k 0) 65534 && fieldsFit t (part c k 1) (part c k 2) (part c k 3) && rises c k) fine 13

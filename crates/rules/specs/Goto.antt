@@ -1,9 +1,9 @@
 -- Goto (001, section 2): labelled instructions, the step rules of Fig. 1, and the run within fuel.
 use mathlib.Core.Path.{_≡_}
 use Prim.Native.Nat.{ℕ, zero, suc, _+_}
-use mathlib.Core.Bool.{Bool, true, false}
+use mathlib.Core.Bool.{true, false}
 use mathlib.Core.List.{List, List·Memᴰ}
-use mathlib.Core.Option.{Option, none, some}
+use mathlib.Core.Option.{none, some}
 use Rattle.rules.specs.Lists.{fetch}
 use Rattle.rules.specs.Expression.{Store}
 use Rattle.rules.specs.While.{Meaning, assigned}

@@ -1,5 +1,4 @@
 -- Text (01, "Text"), over the number w of words in a frame: the text of a row of words, the words of a text, refusals 14 and 15.
-use mathlib.Core.Path.{_≡_}
 use Prim.Native.Nat.{ℕ, zero, suc, _+_, _-_, _*_, _/_, _%_, min}
 use mathlib.Core.Bool.{Bool, not, cond, _&&_, _||_}
 use mathlib.Core.List.{List, [], _∷_, _++_}

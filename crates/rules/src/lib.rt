@@ -1,4 +1,8 @@
-// The answers of the calls. What each call answers, and when, is said in specs/ of the call's crate.
+// What the crates share: the words of an instruction, and the answers of the calls. What each call answers, and when, is said in specs/ of
+// the call's crate.
+
+// The words of an instruction: `width` of specs/CodeWords.
+pub const WIDTH: usize = 4;
 
 // A refusal carries its number and its place.
 pub struct Refusal {

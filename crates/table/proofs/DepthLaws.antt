@@ -9,7 +9,8 @@ use lib.ListN.{getD, set, length-set}
 use lib.Seq.{getD-set-same, getD-set-other}
 use borrow.Author.Tests.{ltb-true, ltb-false}
 use Rattle.rules.specs.Table.{field, nodes, rowAt, Slot, unused, any, var, child, childIn, children, deepest, depthAt}
-use Rattle.rules.proofs.TableLaws.{Fills, NodeFits, node-fits, Below, children-below, depth-at}
+use Rattle.rules.proofs.ListLaws.{Below}
+use Rattle.rules.proofs.TableLaws.{Fills, NodeFits, node-fits, children-below, depth-at}
 use Rattle.table.specs.Steps.{slotCode, Sound, Measured}
 use Rattle.table.proofs.RowLaws.{rank-small}
 

@@ -9,7 +9,7 @@ use borrow.Author.Tests.{eqb-true}
 use Rattle.rules.specs.Lists.{fetch, every}
 use Rattle.rules.specs.Table.{kindOf, rowOf, rowAt, Row, Class, arithmetic, boolean, statement, no-class, rank, Slot, unused, any, var, child}
 use Rattle.rules.proofs.ListLaws.{every-true}
-use Rattle.rules.proofs.TableLaws.{kind-past}
+use Rattle.rules.proofs.KindLaws.{kind-past}
 use Rattle.table.specs.Steps.{slotCode, rowCode, Rows}
 
 pub rank-small : (c : Class) → rank c < 4

@@ -1,0 +1,78 @@
+-- How calls end (specs/Answer), proved once for every call: what `unlessRefused` gives in each case, what an answer says of the case it
+-- came from, and that one definition admits one end.
+use mathlib.Core.Path.{_≡_, refl, ap, sym, _∙_}
+use mathlib.Core.List.{List}
+use mathlib.Core.Option.{Option, none, some}
+use Prim.Native.Nat.{ℕ}
+use native.Mathlib.Omega.{arith}
+use Rattle.rules.specs.Answer.{Ended, ended, unlessRefused}
+use Rattle.rules.specs.declared.Refusal.{Refusal}
+use Rattle.rules.specs.declared.Compiled.{Compiled}
+use Rattle.rules.specs.declared.SourceRun.{SourceRun}
+use Rattle.rules.specs.declared.CodeRun.{CodeRun}
+use Rattle.rules.specs.declared.Text.{Text}
+
+module _ {Answer Word : Type 0} {end : Ended Answer Word} {x : Answer} {l : List Word} where
+  pub answer-is : ended x l ≡ end → x ≡ end .answer
+  answer-is e = ap (λ (z : Ended Answer Word). z .answer) e
+
+  pub after-is : ended x l ≡ end → l ≡ end .after
+  after-is e = ap (λ (z : Ended Answer Word). z .after) e
+
+  -- two ends that meet one definition have one answer and one buffer
+  pub one-end : {y : Answer} {m : List Word} → ended x l ≡ end → ended y m ≡ end → (x ≡ y) × (l ≡ m)
+  one-end p q = (answer-is p ∙ sym (ap (λ (z : Ended Answer Word). z .answer) q), after-is p ∙ sym (ap (λ (z : Ended Answer Word). z .after) q))
+
+-- ---- which refusal an answer carries
+
+-- `carried` reads a refusal off the answers that `refusal` makes
+pub record Carries {Answer : Type 0} (refusal : Refusal → Answer) : Type 0 where
+  pub carried : Answer → Option Refusal
+  pub reads : (r : Refusal) → carried (refusal r) ≡ some r
+
+abbrev pub compiled-carries : Carries Compiled.Refused
+compiled-carries = record { carried = λ x. elim x [ Compiled.Done m ↦ none | Compiled.Refused r ↦ some r ]; reads = λ r. refl }
+
+abbrev pub source-carries : Carries SourceRun.Refused
+source-carries = record {
+  carried = λ x. elim x [ SourceRun.Finished n ↦ none | SourceRun.OutOfFuel n ↦ none | SourceRun.Refused r ↦ some r ];
+  reads = λ r. refl;
+}
+
+abbrev pub code-carries : Carries CodeRun.Refused
+code-carries = record {
+  carried = λ x. elim x [ CodeRun.Finished h ↦ none | CodeRun.OutOfFuel h ↦ none | CodeRun.Refused r ↦ some r ];
+  reads = λ r. refl;
+}
+
+abbrev pub text-carries : Carries Text.Refused
+text-carries = record { carried = λ x. elim x [ Text.Done n ↦ none | Text.Refused r ↦ some r ]; reads = λ r. refl }
+
+-- ---- refused or not
+
+never : {r : Refusal} → some r ≡ none → ⊥
+never {r} e = let z : _≡_ {A = ℕ} 0 1 = cc in omega arith
+
+module _ {Answer Word : Type 0} (refusal : Refusal → Answer) (o : Option Refusal) (lent : List Word) (end : Ended Answer Word) where
+  pub ends-refused : {r : Refusal} → o ≡ some r → unlessRefused refusal o lent end ≡ ended (refusal r) lent
+  unfolding unlessRefused
+  ends-refused e = rw e
+
+  pub ends-unrefused : o ≡ none → unlessRefused refusal o lent end ≡ end
+  unfolding unlessRefused
+  ends-unrefused e = rw e
+
+module _ {Answer Word : Type 0} {refusal : Refusal → Answer} (c : Carries refusal) where
+  -- an answer that carries no refusal came from a call without one
+  pub was-unrefused : (o : Option Refusal) (lent : List Word) (end : Ended Answer Word) {x : Answer} {l : List Word} → c .carried x ≡ none
+      → ended x l ≡ unlessRefused refusal o lent end → (o ≡ none) × (ended x l ≡ end)
+  unfolding unlessRefused
+  was-unrefused (some r) lent end plain e = absurd (never (sym (c .reads r) ∙ ap (c .carried) (sym (answer-is e)) ∙ plain))
+  was-unrefused none lent end plain e = (refl, e)
+
+  -- a refusal is the one that its call earned, and what was lent is as it was
+  pub was-refused : (o : Option Refusal) (lent : List Word) (end : Ended Answer Word) {r : Refusal} {l : List Word} → c .carried (end .answer) ≡ none
+      → ended (refusal r) l ≡ unlessRefused refusal o lent end → (o ≡ some r) × (l ≡ lent)
+  unfolding unlessRefused
+  was-refused (some q) lent end {r} plain e = (sym (c .reads q) ∙ ap (c .carried) (sym (answer-is e)) ∙ c .reads r, after-is e)
+  was-refused none lent end {r} plain e = absurd (never (sym (c .reads r) ∙ ap (c .carried) (answer-is e) ∙ plain))
