@@ -22,15 +22,12 @@ unfolding answer
 answer-refused (some q) r e = cc
 answer-refused none r e = cc
 
-module _ (t : List ℕ) where
-  pub done-accepted : Checked.Done ≡ checking t → Accepted t
+-- what the answer c of `check` told
+module _ (t : List ℕ) {c : Checked} (told : c ≡ checking t) where
+  pub accepted : c ≡ Checked.Done → Accepted t
   unfolding checking
-  done-accepted e = answer-done (tableRefusal t) e
+  accepted e = answer-done (tableRefusal t) (sym e ∙ told)
 
-  pub accepted-done : Accepted t → checking t ≡ Checked.Done
-  unfolding checking answer
-  accepted-done e = rw e
-
-  pub refused-refusal : (r : Refusal) → Checked.Refused r ≡ checking t → tableRefusal t ≡ some r
+  pub refused : (r : Refusal) → c ≡ Checked.Refused r → tableRefusal t ≡ some r
   unfolding checking
-  refused-refusal r e = answer-refused (tableRefusal t) r e
+  refused r e = answer-refused (tableRefusal t) r (sym e ∙ told)

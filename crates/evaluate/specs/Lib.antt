@@ -1,0 +1,3 @@
+-- What the evaluators ask.
+pub mod Ready
+pub mod inside

@@ -1,0 +1,3 @@
+-- What the source run answers, for every input.
+pub mod SourceRun
+pub mod inside
