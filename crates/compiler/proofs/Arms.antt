@@ -9,7 +9,7 @@ use Rattle.rules.specs.Compilation.{size, compile}
 use Rattle.rules.specs.CodeWords.{width, frameOf, wordsOf}
 use Rattle.rules.proofs.CompilationLaws.{length-compile}
 use Rattle.rules.proofs.CodeLaws.{length-words, words-append}
-use Rattle.compiler.specs.Writing.{frame, framed, Written}
+use Rattle.compiler.specs.inside.Writing.{frame, framed, Written}
 use Rattle.compiler.proofs.Stores.{sets-then, three-stored, four-stored}
 
 -- the words of a statement's code

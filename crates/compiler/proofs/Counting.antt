@@ -19,7 +19,7 @@ use Rattle.rules.proofs.ListLaws.{every-true}
 use Rattle.rules.proofs.KindLaws.{kind-past}
 use Rattle.rules.proofs.TableLaws.{Child, NodeAs, Facts, node-as, tree-at}
 use Rattle.rules.proofs.Bound.{sum, counted, over-nodes}
-use Rattle.compiler.specs.Writing.{stmAt, adds}
+use Rattle.compiler.specs.inside.Writing.{stmAt, adds}
 
 -- a node that is no statement has no code
 no-statement : (k : Kind) (p q r : ℕ) (low : ℕ → Tree) → (rowOf k .class ≡ statement → ⊥) → stmOf (treeBy k p q r low) ≡ Stm.skip

@@ -1,5 +1,5 @@
 -- A statement node read by its words: its statement in terms of its children's, and where their code fits within its own.
-use mathlib.Core.Path.{_≡_, refl, ap, _∙_}
+use mathlib.Core.Path.{_≡_, refl, ap, sym, _∙_}
 use mathlib.Core.List.{List}
 use Prim.Native.Nat.{ℕ, _+_, _*_, _<_, _≤_}
 use native.Mathlib.Omega.{arith}
@@ -9,8 +9,13 @@ use Rattle.rules.specs.While.{Stm}
 use Rattle.rules.specs.Compilation.{size}
 use Rattle.rules.specs.CodeWords.{width}
 use Rattle.rules.specs.Table.{nodes, Kind, skip, assign, sequence, if, while, kindOf, rowOf, statement, treeBy}
-use Rattle.rules.proofs.TableLaws.{Child, NodeAs, Words, Facts, accepted-facts, words-as, stm-as, statement-range}
-use Rattle.compiler.specs.Writing.{stmAt, Fits}
+use Rattle.rules.proofs.KindLaws.{statement-range}
+use Rattle.rules.proofs.TableLaws.{Child, NodeAs, NodeFits, node-as, Facts, accepted-facts, stm-as}
+use Rattle.compiler.specs.inside.Writing.{Words, stmAt, Fits}
+
+-- a node that was read is as its kind says
+words-as : {t : List ℕ} {n w p q r : ℕ} → NodeFits t n → Words t n w p q r → (k : Kind) → kindOf w ≡ k → NodeAs t n k p q r
+words-as f w k e = rw (w .is-p, w .is-q, w .is-r) (node-as f k (ap kindOf (sym (w .is-kind)) ∙ e))
 
 -- a child statement and the instruction from which its code fits
 pub record Part (t : List ℕ) (n p start room i : ℕ) : Type 0 where

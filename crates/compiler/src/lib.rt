@@ -3,6 +3,7 @@ use rules::Checked;
 use rules::Compiled;
 use rules::Made;
 use rules::Refusal;
+use rules::WIDTH;
 ghost use mathlib.Core.Path.{_≡_};
 ghost use mathlib.Core.Bool.{cond};
 ghost use Prim.Native.Nat.{_+_, _*_, _≤_};
@@ -14,9 +15,8 @@ ghost use Rattle.rules.specs.CodeWords.{width};
 ghost use Rattle.rules.specs.Compilation.{size};
 ghost use Rattle.rules.specs.Refusal.{refusal};
 ghost use Rattle.rules.specs.Table.{Accepted, kindOf, program, root};
-ghost use Rattle.rules.proofs.TableLaws.{Words};
 ghost use Rattle.compiler.specs.Compiling.{compiling};
-ghost use Rattle.compiler.specs.Writing.{frame, framed, stmAt, Place, Fits, Written, adds};
+ghost use Rattle.compiler.specs.inside.Writing.{Words, frame, framed, stmAt, Place, Fits, Written, adds};
 
 // The kinds of statements that have code of their own.
 const ASSIGN: u32 = 33;
@@ -26,9 +26,6 @@ const SEQUENCE: u32 = 34;
 const IF: u32 = 35;
 
 const WHILE: u32 = 36;
-
-// The words of an instruction.
-const WIDTH: usize = 4;
 
 struct Node {
     kind: u32,

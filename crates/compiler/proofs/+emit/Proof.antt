@@ -9,7 +9,7 @@ use borrow.Fn.Kinds.{In}
 use borrow.Fn.PlainCycle.{Measures, is, falls, and}
 use Rattle.rules.specs.While.{Stm}
 use Rattle.rules.specs.Compilation.{size}
-use Rattle.compiler.specs.Writing.{Fits}
+use Rattle.compiler.specs.inside.Writing.{Fits}
 use Rattle.compiler.proofs.Nodes.{in-table, Sized, SequenceAt, IfAt, WhileAt}
 use Rattle.compiler.proofs.Nodes.{assign-at, sequence-at, if-at, while-at, skip-at}
 use Rattle.compiler.proofs.Arms.{skip-written, assign-written, seq-written, if-written, while-written}

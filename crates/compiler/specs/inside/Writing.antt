@@ -6,8 +6,15 @@ use mathlib.Core.List.{List, [], _∷_}
 use lib.Seq.{sets}
 use Rattle.rules.specs.While.{Stm}
 use Rattle.rules.specs.Compilation.{size, compile}
-use Rattle.rules.specs.Table.{nodes, Kind, statement, rowAt, treeAt, stmOf, Accepted}
+use Rattle.rules.specs.Table.{field, nodes, Kind, statement, rowAt, treeAt, stmOf, Accepted}
 use Rattle.rules.specs.CodeWords.{width, wordsOf}
+
+-- the words of node n, as locals hold them
+pub record Words (t : List ℕ) (n w p q r : ℕ) : Type 0 where
+  pub is-kind : w ≡ field t n 0
+  pub is-p : p ≡ field t n 1
+  pub is-q : q ≡ field t n 2
+  pub is-r : r ≡ field t n 3
 
 -- "label, operation, x, y"
 abbrev pub frame : ℕ → ℕ → ℕ → ℕ → List ℕ
