@@ -26,10 +26,10 @@ loop-holds : tie.Need-loop-holds Inv-loop μ-loop
 loop-holds c = begun (c .before .before .pre) (c .find .ensures)
 
 returns : tie.Need-returns Inv-loop μ-loop
-returns c = without-fuel (c .before .before .loop .inv) (c .before .loop-test .taken) (c .if1 .taken)
+returns c = without-fuel (c .before .before .loop .inv) (omega arith) (omega (arith, c .before .before .loop .inv .within))
 
 step-requires : tie.Need-step-requires Inv-loop μ-loop
-step-requires c κs = stands (c .before .before .before .loop .inv) (c .before .before .loop-test .taken)
+step-requires c κs = stands (c .before .before .before .loop .inv) (omega arith)
 
 add-steps : tie.Need-add-steps Inv-loop μ-loop
 add-steps c = omega arith
@@ -40,10 +40,10 @@ loop-less c = omega arith
 loop-again : tie.Need-loop-again Inv-loop μ-loop
 loop-again c =
     let turn = c .before .before in
-    onward (turn .before .before .loop .inv) (turn .before .loop-test .taken) (omega arith) (c .step .ensures)
+    onward (turn .before .before .loop .inv) (omega arith) (omega arith) (c .step .ensures)
 
 returns-2 : tie.Need-returns-2 Inv-loop μ-loop
-returns-2 c = at-finish (c .before .loop .inv) (c .loop-test .left)
+returns-2 c = at-finish (c .before .loop .inv) (omega arith)
 
 pub run-from-spec : {M : Type 1} → statement M
 run-from-spec =
