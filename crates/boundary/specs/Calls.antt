@@ -7,8 +7,8 @@ use Rattle.rules.specs.Expression.{Store}
 use Rattle.rules.specs.Answer.{Ended, ended, checkedWords, compiledWords, sourceRunWords, codeRunWords, textWords}
 use Rattle.table.specs.Checking.{checking}
 use Rattle.compiler.specs.Compiling.{compiling}
-use Rattle.run.specs.SourceRun.{sourceRun}
-use Rattle.run.specs.CodeRun.{codeRun}
+use Rattle.source.specs.SourceRun.{sourceRun}
+use Rattle.code.specs.CodeRun.{codeRun}
 use Rattle.text.specs.Reading.{reading, writing}
 
 -- the table check lends nothing to be altered

@@ -98,7 +98,7 @@ pub extern "C" fn rill_run_source(
 )
     ensures { λ _. ⌜ ended (now (answer .exit)) (now (store .exit)) ≡ sourceCall (now (table .entry)) (now (store .entry)) fuel ⌝ }
 {
-    let run = run::run_source(table, store, fuel);
+    let run = source::run_source(table, store, fuel);
     tell_source_run(run, answer);
 }
 
@@ -113,7 +113,7 @@ pub extern "C" fn rill_run_code(
 )
     ensures { λ _. ⌜ ended (now (answer .exit)) (now (store .exit)) ≡ codeCall (now (table .entry)) (now (code .entry)) start (now (store .entry)) fuel ⌝ }
 {
-    let run = run::run_code(table, code, start, store, fuel);
+    let run = code::run_code(table, code, start, store, fuel);
     tell_code_run(run, answer);
 }
 
