@@ -12,9 +12,10 @@ mod mutants {
     include!(concat!(env!("OUT_DIR"), "/mutants/all.rs"));
 }
 
-const COUNT: usize = 20_000;
+/// With any of the seeds 1 to 8 this finds all; with seed 1 a third does.
+const COUNT: usize = 8_000;
 
-/// Until the first round with a failure.
+/// Until the first family with a failure.
 fn is_found_out(calls: &Calls) -> bool {
     compare(calls, &Plan { seed: 1, count: COUNT, patience: 1, trace: false }).failed > 0
 }
