@@ -12,7 +12,7 @@ mod mutants {
     include!(concat!(env!("OUT_DIR"), "/mutants/all.rs"));
 }
 
-/// With any of the seeds 1 to 8 this finds all; with seed 1 a third does.
+/// Finds every mutant with any of the seeds 1 to 8. Seed 1 needs some 2,100 cases at most, seed 3 some 7,200.
 const COUNT: usize = 8_000;
 
 /// Until the first family with a failure.
