@@ -15,7 +15,7 @@ pub struct Plan {
     pub seed: u64,
     /// Random cases; the last round is completed.
     pub count: usize,
-    /// After so many failures the comparison stops.
+    /// After so many failures the comparison stops: it tries no further family.
     pub patience: usize,
     /// Whether each case is named before it is tried, to find one that never returns.
     pub trace: bool,
@@ -38,15 +38,17 @@ pub fn compare(calls: &Calls, plan: &Plan) -> Report {
     let mut random = Random::new(plan.seed);
     while report.tally.cases() < plan.count {
         for family in ROUND {
+            if report.failed >= plan.patience {
+                return report;
+            }
             report.try_all(calls, plan, family(&mut random));
         }
         report.record(text_is_read_back(calls, &mut random));
         report.record(code_follows_source(calls, &mut random));
-        if report.failed >= plan.patience {
-            return report;
-        }
     }
-    report.try_all(calls, plan, long_runs());
+    if report.failed < plan.patience {
+        report.try_all(calls, plan, long_runs());
+    }
     report
 }
 

@@ -12,9 +12,10 @@ mod mutants {
     include!(concat!(env!("OUT_DIR"), "/mutants/all.rs"));
 }
 
-const COUNT: usize = 20_000;
+/// Finds every mutant with any of the seeds 1 to 8. Seed 1 needs some 2,100 cases at most, seed 3 some 7,200.
+const COUNT: usize = 8_000;
 
-/// Until the first round with a failure.
+/// Until the first family with a failure.
 fn is_found_out(calls: &Calls) -> bool {
     compare(calls, &Plan { seed: 1, count: COUNT, patience: 1, trace: false }).failed > 0
 }

@@ -49,10 +49,16 @@ fn several_at_one_node(random: &mut Random, table: &mut [u32]) {
     }
 }
 
-/// Tries nodes until one takes a fault of this number.
+/// Tries nodes until one takes a fault of this number. Each kind in the table has the same chance: the faults of a kind
+/// that is rare, as the while, must occur often too.
 fn at_some_node(random: &mut Random, table: &mut [u32], number: usize) -> Option<usize> {
+    let mut kinds: Vec<u32> = table.chunks_exact(4).map(|frame| frame[0]).collect();
+    kinds.sort_unstable();
+    kinds.dedup();
     for _ in 0..20 {
-        let node = random.below(table.len() / 4);
+        let kind = random.pick(&kinds);
+        let nodes: Vec<usize> = (0..table.len() / 4).filter(|&node| table[4 * node] == kind).collect();
+        let node = random.pick(&nodes);
         if at_node(random, table, node, number) {
             return Some(node);
         }

@@ -8,7 +8,7 @@ use crate::random::Random;
 pub fn frames(random: &mut Random) -> usize {
     match random.below(16) {
         0 => 0,
-        1 | 2 => random.pick(&[1022, 1023, 1024, 1024, 1024, 1025, 1026]),
+        1 | 2 => random.pick(&[1023, 1024, 1024, 1025, 1025, 1026]),
         3 => random.from(20, 200),
         _ => random.from(1, 6),
     }
@@ -39,7 +39,8 @@ pub fn text(words: &[u32]) -> Vec<u8> {
 /// One fault, anywhere in the text.
 pub fn damage(random: &mut Random, text: &mut Vec<u8>) {
     const STRAY: &[u8] = b"g`/:@AFG \r\n\t\0\x80\xffx";
-    let full = text.len() == LINE * MOST_FRAMES;
+    // At the end of a text that is full or too long, so that the first fault is often the one past the limit.
+    let full = text.len() >= LINE * MOST_FRAMES;
     if text.is_empty() || random.once_in(if full { 2 } else { 6 }) {
         let stray = random.pick(STRAY);
         let count = random.from(1, 3);
@@ -48,17 +49,18 @@ pub fn damage(random: &mut Random, text: &mut Vec<u8>) {
     let place = random.below(text.len());
     let line_start = place - place % LINE;
     let line_end = (line_start + LINE - 1).min(text.len() - 1);
-    match random.below(9) {
+    match random.below(10) {
         0 => upper_case(random, text),
-        1 => text.truncate(text.len() - 1),
-        2 => text.truncate(place),
-        3 => {
+        // Twice: a reader that takes the byte after the text for the last newline is found out only if that byte is one.
+        1 | 2 => text.truncate(text.len() - 1),
+        3 => text.truncate(place),
+        4 => {
             text.remove(place);
         }
-        4 => text.insert(place, random.pick(b"0a\n \r")),
-        5 => text[line_end] = random.pick(b"\r 0\x0b\0"),
-        6 => text.insert(line_start, b'\n'),
-        7 => text.insert(line_end, b'\r'),
+        5 => text.insert(place, random.pick(b"0a\n \r")),
+        6 => text[line_end] = random.pick(b"\r 0\x0b\0"),
+        7 => text.insert(line_start, b'\n'),
+        8 => text.insert(line_end, b'\r'),
         _ => text[place] = random.pick(STRAY),
     }
 }
