@@ -1,6 +1,6 @@
--- What the proofs of several functions cite, and what the contract says of every answer.
+-- What the proofs of several functions cite, and what the contract gives.
 pub mod Order
 pub mod Places
 pub mod Steps
 pub mod Along
-pub mod CodeAnswers
+pub mod Promise

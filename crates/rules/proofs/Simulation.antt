@@ -9,10 +9,10 @@ use mathlib.Core.List.{List·Memᴰ·head, List·Memᴰ·tail, Memᴰ·append-le
 use mathlib.Core.Option.{Option, none, some}
 use Rattle.rules.specs.Lists.{fetch}
 use Rattle.rules.specs.Expression.{Store}
-use Rattle.rules.specs.While.{Stm, skip, assign, seq, if, while, Meaning, Evaluates, count, Unfinished, Outcome, done, stop, andThen, spend, passes, exec}
+use Rattle.rules.specs.While.{Stm, skip, assign, seq, if, while, Meaning, Evaluates, count, EvaluatesWithin, Unfinished, Outcome, done, stop, andThen, spend, passes, exec}
 use Rattle.rules.specs.Goto.{Instr, _≔_, goto, ifnot, Code, _∈_, Steps, Halted, finished, out, nextLabel, nextStore, run}
 use Rattle.rules.specs.Compilation.{size, compile}
-use Rattle.rules.proofs.WhileLaws.{AtMost, some-left, none-left, at-most, says, finds, stops, decides, EvaluatesWithin}
+use Rattle.rules.proofs.WhileLaws.{AtMost, some-left, none-left, at-most, says, finds, stops, decides}
 use Rattle.rules.proofs.GotoLaws.{finished-steps, out-steps, run-step, run-out, run-finished, fetches, outside}
 use Rattle.rules.proofs.CompilationLaws.{compile-dom, compile-wellformed}
 

@@ -7,7 +7,7 @@ use native.Mathlib.Omega.{arith}
 use mathlib.Core.Bool.{Bool, true, false}
 use lib.ListN.{length, length-set}
 use Rattle.rules.specs.Expression.{Store}
-use Rattle.rules.specs.While.{Stm, skip, assign, seq, if, while, Meaning, Evaluates, assign-ns, skip-ns, comp-ns}
+use Rattle.rules.specs.While.{Stm, skip, assign, seq, if, while, Meaning, Evaluates, assign-ns, skip-ns, comp-ns, EvaluatesWithin}
 use Rattle.rules.specs.While.{if-tt-ns, if-ff-ns, while-tt-ns, while-ff-ns, count, Unfinished, at-assign}
 use Rattle.rules.specs.While.{in-first, in-second, at-test, in-then, at-then-end, in-else, at-while-test, in-body}
 use Rattle.rules.specs.While.{at-pass-end, in-next-pass, Outcome, done, stop, andThen, spend, passes, exec}
@@ -26,10 +26,6 @@ storeOf (stop σ) = σ
 pub data AtMost (n : ℕ) : Outcome → Type 0 where
   some-left : {σ : Store} (left : ℕ) → left ≤ n → AtMost n (done σ left)
   none-left : {σ : Store} → AtMost n (stop σ)
-
--- the While rules give an evaluation from σ whose count is at most n
-abbrev pub EvaluatesWithin : Meaning → Stm → Store → ℕ → Type 0
-EvaluatesWithin M s σ n = (σ′ : Store) × (d : Evaluates M s σ σ′) × (count d ≤ n)
 
 module _ (M : Meaning) where
   pub at-most : {s : Stm} {n : ℕ} {σ : Store} {o : Outcome} → Says M s n σ o → AtMost n o
@@ -276,3 +272,11 @@ module _ (M : Meaning) where
     stop-if = λ no-eval. was-stopped (exec M s n σ) (says s n σ) no-eval;
     stop-only-if = λ q within. let e = finds (within .1) n (within .2) in let z : _≡_ {A = ℕ} 0 1 = cc in omega arith;
   }
+
+  -- whether the rules give an evaluation within n
+  pub within? : (s : Stm) (n : ℕ) (σ : Store) → Dec (EvaluatesWithin M s σ n)
+  within? s n σ = go (exec M s n σ) refl
+    where
+      go : (o : Outcome) → exec M s n σ ≡ o → Dec (EvaluatesWithin M s σ n)
+      go (done σ′ left) e = let d = decides s n σ .done-only-if e in yes (σ′, d .0, omega (arith, d .1))
+      go (stop σ′) e = no (decides s n σ .stop-only-if e)

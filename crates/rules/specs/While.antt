@@ -1,7 +1,7 @@
 -- While (001, Appendix A): statements, the natural semantics of Fig. A.1, the count that 01 lays on it, the unfinished run,
 -- and the run within fuel as a function. An expression is named by its node; `Meaning` says what the nodes mean.
 use mathlib.Core.Path.{_≡_}
-use Prim.Native.Nat.{ℕ, zero, suc, _+_}
+use Prim.Native.Nat.{ℕ, zero, suc, _+_, _≤_}
 use mathlib.Core.Bool.{Bool, true, false}
 use lib.ListN.{set}
 use lib.IntN.{ℤ}
@@ -45,6 +45,10 @@ count (if-tt-ns h d) = 1 + count d + 1
 count (if-ff-ns h d) = 1 + count d
 count (while-tt-ns h d e) = 1 + count d + 1 + count e
 count (while-ff-ns h) = 1
+
+-- the While rules give an evaluation from σ whose count is at most n
+abbrev pub EvaluatesWithin : Meaning → Stm → Store → ℕ → Type 0
+EvaluatesWithin M s σ n = (σ′ : Store) × (d : Evaluates M s σ σ′) × (count d ≤ n)
 
 -- "the store holds exactly the assignments among the first n units": after n units of s from σ the store is σ′, and a unit is still
 -- owed. The units of a statement are, in order, its test, its branch or body, and the one that closes a then branch or a pass.

@@ -1,3 +1,4 @@
--- What the proofs of several functions cite, and what the contract says of every answer.
+-- What the proofs of several functions cite, and what the contract gives.
 pub mod Statements
-pub mod SourceLaws
+pub mod Endings
+pub mod Promise

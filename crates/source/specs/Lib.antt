@@ -1,3 +1,4 @@
--- What the source run answers, for every input.
+-- What the source run answers, for every input, and what an answer says (demand 2).
 pub mod SourceRun
+pub mod SourceSays
 pub mod inside

@@ -11,7 +11,7 @@ use Rattle.rules.proofs.TableLaws.{Facts, accepted-facts}
 use Rattle.source.specs.SourceRun.{sourceEnd}
 use Rattle.table.proofs.Answer.{accepted, refused}
 use Rattle.source.proofs.Statements.{ran-length, left-most}
-use Rattle.source.proofs.SourceLaws.{table-refused, store-refused, source-spent, source-finished}
+use Rattle.source.proofs.Endings.{table-refused, store-refused, source-spent, source-finished}
 use Rattle.source.proofs.run_source.Statement.{statement}
 use Rattle.source.proofs.run_source.Tie as tie
 use Rattle.source.proofs.run_source.Reads as reads
