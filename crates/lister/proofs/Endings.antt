@@ -28,6 +28,7 @@ use Rattle.text.specs.Writing.{writing}
 use Rattle.text.proofs.Endings.{write-done}
 use Rattle.text.proofs.RoundTrips.{has-read}
 use Rattle.lister.specs.Listing.{refusalLine, lineOr, listingOf, listing, Listed}
+use Rattle.lister.proofs.Rooms.{compiling-room}
 
 -- ---- writing
 
@@ -55,31 +56,32 @@ line-listed r room after x enough wrote =
 
 -- ---- compiling
 
--- the table's code stands at the front of the room
-pub record HasCompiled (t : List ℕ) (n : ℕ) (after : List ℕ) : Type 0 where
+-- the table's code, from label `start` on, stands at the front of the room
+pub record HasCompiled (t : List ℕ) (start n : ℕ) (after : List ℕ) : Type 0 where
   pub few : n ≤ 1024
-  pub front : take (width * n) after ≡ wordsOf (compile (program t) 1)
-  pub not-refused : compileRefusal t 1 (width * 1024) ≡ none
+  pub front : take (width * n) after ≡ wordsOf (compile (program t) start)
+  pub not-refused : compileRefusal t start (width * 1024) ≡ none
 
-module _ (t room after : List ℕ) (long : length room ≡ width * 1024) where
-  has-compiled : (m : Made) → ended (Compiled.Done m) after ≡ compiling t 1 room → HasCompiled t (m .instructions) after
+module _ (t room after : List ℕ) (start : ℕ) (long : length room ≡ width * 1024) where
+  has-compiled : (m : Made) → ended (Compiled.Done m) after ≡ compiling t start room → HasCompiled t start (m .instructions) after
   unfolding compiling done
   has-compiled m e =
-      let is = was-unrefused compiled-carries (compileRefusal t 1 (length room)) room (done t 1 room) refl e in
-      let enough : width * size (program t) ≤ length room = done-unrefused t 1 room m after e .enough in
-      let same : Compiled.Done m ≡ Compiled.Done (made (size (program t)) (1 + size (program t))) = answer-is (is .1) in
-      let made-is : m ≡ made (size (program t)) (1 + size (program t)) = cc in
+      let is = was-unrefused compiled-carries (compileRefusal t start (length room)) room (done t start room) refl e in
+      let enough : width * size (program t) ≤ length room = done-unrefused t start room m after e .enough in
+      let same : Compiled.Done m ≡ Compiled.Done (made (size (program t)) (start + size (program t))) = answer-is (is .1) in
+      let made-is : m ≡ made (size (program t)) (start + size (program t)) = cc in
       let count : m .instructions ≡ size (program t) = ap (λ (x : Made). x .instructions) made-is in
-      let ws = wordsOf (compile (program t) 1) in
-      let words : length ws ≡ width * m .instructions = length-words (compile (program t) 1) ∙ rw (length-compile (program t) 1, count) refl in
+      let ws = wordsOf (compile (program t) start) in
+      let words : length ws ≡ width * m .instructions =
+      length-words (compile (program t) start) ∙ rw (length-compile (program t) start, count) refl in
       record {
         few = omega (arith, long, count, enough);
         front = rw (← words, after-is (is .1)) (take-sets ws room (omega (arith, words, count, enough)));
         not-refused = rw long at (is .0);
       }
 
-  not-compiled : (r : Refusal) → ended (Compiled.Refused r) after ≡ compiling t 1 room → compileRefusal t 1 (width * 1024) ≡ some r
-  not-compiled r e = rw long at (refused-exactly t 1 room r after e .0)
+  not-compiled : (r : Refusal) → ended (Compiled.Refused r) after ≡ compiling t start room → compileRefusal t start (width * 1024) ≡ some r
+  not-compiled r e = rw long at (refused-exactly t start room r after e .0)
 
 -- ---- reading
 
@@ -107,20 +109,23 @@ module _ (b room after : List ℕ) (long : length room ≡ 4096) where
 
 -- ---- the listing of the first n words, by what `compile` answered
 
-module _ (j n : ℕ) (ws code after : List ℕ) (x : Compiled) (same : j ≡ n) (long : length code ≡ width * 1024)
-    (call : ended x after ≡ compiling (take j ws) 1 code) where
-  pub compiled : (m : Made) → x ≡ Compiled.Done m → HasCompiled (take n ws) (m .instructions) after
-  compiled m e = has-compiled (take n ws) code after long m (rw (same, e) at call)
+-- from any start label: whether it is refused does not hang on it, the code does
+module _ (j n start : ℕ) (ws code after : List ℕ) (x : Compiled) (same : j ≡ n) (long : length code ≡ width * 1024)
+    (call : ended x after ≡ compiling (take j ws) start code) where
+  pub compiled : (m : Made) → x ≡ Compiled.Done m → HasCompiled (take n ws) start (m .instructions) after
+  compiled m e = has-compiled (take n ws) code after start long m (rw (same, e) at call)
 
-  pub compiled-listed : (m : Made) {out out′ : List ℕ} {r : ℕ} → x ≡ Compiled.Done m
-      → Listed (textOf width (take (width * m .instructions) after)) out out′ r → Listed (listingOf (take n ws)) out out′ r
-  unfolding listingOf lineOr
-  compiled-listed m e listed = let has = compiled m e in rw (has .not-refused, ← has .front) listed
-
-  pub refused-listed : (q : Refusal) {out out′ : List ℕ} {r : ℕ} → x ≡ Compiled.Refused q
+  pub refused-listed : (q : Refusal) {out out′ : List ℕ} {r : ℕ} → start + 1024 ≤ 65535 → x ≡ Compiled.Refused q
       → Listed (refusalLine q) out out′ r → Listed (listingOf (take n ws)) out out′ r
   unfolding listingOf lineOr
-  refused-listed q e listed = rw (not-compiled (take n ws) code after long q (rw (same, e) at call)) listed
+  refused-listed q low e listed =
+      let given = not-compiled (take n ws) code after start long q (rw (same, e) at call) in
+      rw (compiling-room (take n ws) 1 (omega arith) ∙ sym (compiling-room (take n ws) start low) ∙ given) listed
+
+pub compiled-listed : {t after out out′ : List ℕ} {k r : ℕ} → HasCompiled t 1 k after
+    → Listed (textOf width (take (width * k) after)) out out′ r → Listed (listingOf t) out out′ r
+unfolding listingOf lineOr
+compiled-listed has listed = rw (has .not-refused, ← has .front) listed
 
 -- ---- the listing of a text, by what `read_text` answered
 
