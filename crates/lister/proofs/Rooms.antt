@@ -2,7 +2,7 @@
 use mathlib.Core.Path.{_≡_, refl}
 use mathlib.Core.List.{List}
 use mathlib.Core.Option.{Option, none, some}
-use Prim.Native.Nat.{ℕ, _+_, _*_, _<_}
+use Prim.Native.Nat.{ℕ, _+_, _*_, _<_, _≤_}
 use native.Mathlib.Omega.{arith}
 use borrow.Author.Tests.{le-ltb}
 use lib.Dec.{ltb}
@@ -29,19 +29,24 @@ unfolding readRefusal refuse
 reading-room b =
     orElse-never _ _ (λ e. let good = accepted-text 4 b e in rw (le-ltb 4096 (4 * lines 4 b) (omega (arith, good .few))))
 
-pub compiling-room : (t : List ℕ) → compileRefusal t 1 4096 ≡ tableRefusal t
+-- from any label that leaves 1,024 after it
+pub compiling-room : (t : List ℕ) (start : ℕ) → start + 1024 ≤ 65535 → compileRefusal t start (width * 1024) ≡ tableRefusal t
 unfolding compileRefusal refuse _orElse_
-compiling-room t = orElse-never _ _ (λ e. fits (accepted-facts t e))
+compiling-room t start low = orElse-never _ _ (λ e. fits (accepted-facts t e))
   where
-    fits : Facts t → (refuse (ltb 65535 1) 11 0 orElse refuse (ltb 65535 (1 + size (program t))) 11 0
-        orElse refuse (ltb 4096 (width * size (program t))) 12 0) ≡ none
+    fits : Facts t → (refuse (ltb 65535 start) 11 0 orElse refuse (ltb 65535 (start + size (program t))) 11 0
+        orElse refuse (ltb (width * 1024) (width * size (program t))) 12 0) ≡ none
     fits f =
         let few : size (program t) < nodes t = few-instructions t f in
-        rw (le-ltb 65535 (1 + size (program t)) (omega (arith, f .few)), le-ltb 4096 (width * size (program t)) (omega (arith, f .few)))
+        rw (
+          le-ltb 65535 start (omega arith),
+          le-ltb 65535 (start + size (program t)) (omega (arith, f .few)),
+          le-ltb (width * 1024) (width * size (program t)) (omega (arith, f .few)),
+        )
 
 -- the listing, without rooms
 pub listing-is : (b : List ℕ)
     → listing b ≡ lineOr (refuseLowest (lineFault 4 b) (lines 4 b))
-    (lineOr (tableRefusal (wordsOfText 4 b)) (textOf 4 (wordsOf (compile (program (wordsOfText 4 b)) 1))))
+    (lineOr (tableRefusal (wordsOfText 4 b)) (textOf width (wordsOf (compile (program (wordsOfText 4 b)) 1))))
 unfolding listing listingOf
-listing-is b = rw (reading-room b, compiling-room (wordsOfText 4 b))
+listing-is b = rw (reading-room b, compiling-room (wordsOfText 4 b) 1 (omega arith))

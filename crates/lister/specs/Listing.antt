@@ -1,12 +1,13 @@
--- The listing program (01, "Text"): the bytes it writes, for all that it may read. Its own rooms are 4,096 words each.
+-- The listing program (01, "Text"): the bytes it writes, for all that it may read. Its own rooms hold the words
+-- of 1,024 nodes and of 1,024 instructions.
 use mathlib.Core.Path.{_≡_}
-use Prim.Native.Nat.{ℕ, _≤_}
+use Prim.Native.Nat.{ℕ, _*_, _≤_}
 use mathlib.Core.List.{List, [], _∷_}
 use mathlib.Core.Option.{Option, none, some}
 use lib.ListN.{length}
 use lib.Seq.{sets}
 use Rattle.rules.specs.Compilation.{compile}
-use Rattle.rules.specs.CodeWords.{wordsOf}
+use Rattle.rules.specs.CodeWords.{width, wordsOf}
 use Rattle.rules.specs.Table.{program}
 use Rattle.rules.specs.Text.{textOf, wordsOfText, readRefusal}
 use Rattle.rules.specs.declared.Refusal.{Refusal}
@@ -23,7 +24,7 @@ lineOr none text = text
 
 -- "compiles at label 1 and writes the code's text"
 unfoldable pub listingOf : List ℕ → List ℕ
-listingOf t = lineOr (compileRefusal t 1 4096) (textOf 4 (wordsOf (compile (program t) 1)))
+listingOf t = lineOr (compileRefusal t 1 (width * 1024)) (textOf width (wordsOf (compile (program t) 1)))
 
 -- "reads table text from standard input": without a text there is no table, so reading is refused first
 unfoldable pub listing : List ℕ → List ℕ

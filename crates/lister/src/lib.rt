@@ -2,10 +2,15 @@
 use rules::Compiled;
 use rules::Refusal;
 use rules::Text;
+use rules::WIDTH;
 ghost use Prim.Native.Nat.{_*_, _≤_};
 ghost use lib.ListN.{length, take};
+ghost use Rattle.rules.specs.CodeWords.{width};
 ghost use Rattle.rules.specs.Text.{textOf};
 ghost use Rattle.lister.specs.Listing.{refusalLine, listingOf, listing, Listed};
+
+// The bytes of an instruction's line: eight digits a word, and the newline.
+const LINE: usize = 8 * WIDTH + 1;
 
 // The line of a refusal.
 fn refused(r: Refusal, out: &mut [u8; 33792]) -> usize
@@ -16,14 +21,14 @@ fn refused(r: Refusal, out: &mut [u8; 33792]) -> usize
     17
 }
 
-// The text of the first instructions of a row of words.
+// The text of the first instructions of a row of words. `write_text` writes four words a line, which are an instruction.
 fn list_code(code: &[u32], instructions: u32, out: &mut [u8; 33792]) -> usize
-    requires { ⌜ (4 * instructions ≤ length (now code)) × (instructions ≤ 1024) ⌝ }
-    ensures { λ n. ⌜ Listed (textOf 4 (take (4 * instructions) (now (code .entry)))) (now (out .entry)) (now (out .exit)) n ⌝ }
+    requires { ⌜ (width * instructions ≤ length (now code)) × (instructions ≤ 1024) ⌝ }
+    ensures { λ n. ⌜ Listed (textOf width (take (width * instructions) (now (code .entry)))) (now (out .entry)) (now (out .exit)) n ⌝ }
 {
-    let words = 4 * (instructions as usize);
+    let words = WIDTH * (instructions as usize);
     text::write_text(&code[0..words], out);
-    33 * (instructions as usize)
+    LINE * (instructions as usize)
 }
 
 // The listing of the table in the first n words.
@@ -32,7 +37,7 @@ fn list_table(words: &[u32], n: u32, out: &mut [u8; 33792]) -> usize
     ensures { λ r. ⌜ Listed (listingOf (take n (now (words .entry)))) (now (out .entry)) (now (out .exit)) r ⌝ }
 {
     let count = n as usize;
-    let mut code = [0u32; 4096];
+    let mut code = [0u32; WIDTH * 1024];
     let compiled = compiler::compile(&words[0..count], 1, &mut code);
     match compiled {
         Compiled::Refused(r) => refused(r, out),

@@ -3,7 +3,8 @@
 ghost use mathlib.Core.Path.{_≡_};
 ghost use Rattle.rules.specs.Refusal.{refusal};
 ghost use Rattle.rules.specs.Answer.{ended};
-ghost use Rattle.text.specs.Reading.{reading, writing};
+ghost use Rattle.text.specs.Reading.{reading};
+ghost use Rattle.text.specs.Writing.{writing};
 use rules::Refusal;
 use rules::Text;
 

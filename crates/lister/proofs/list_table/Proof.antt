@@ -3,7 +3,9 @@ use borrow.Author.Needs.{needs}
 use mathlib.Core.Path.{_≡_, refl}
 use native.Mathlib.Nat.{sub-zero}
 use native.Mathlib.Omega.{arith}
+use Prim.Native.Nat.{_*_}
 use lib.ListN.{length}
+use Rattle.rules.specs.CodeWords.{width}
 use Rattle.lister.proofs.Endings.{compiled, compiled-listed, refused-listed}
 use Rattle.lister.proofs.list_table.Statement.{statement}
 use Rattle.lister.proofs.list_table.Tie as tie
@@ -40,8 +42,8 @@ list-code-requires c κs =
     let call = c .before .before .before .before .before .before in
     let args = call .before .before .before .before .args in
     let done = c .before .before .before .compiled2 .given .1 in
-    let has = compiled _ (args .n) (args .words .now) _ _ _ (sub-zero _) refl (call .compile .ensures) _ done in
-    let long : length (call .compile .last .1 .1 .0) ≡ 4096 = call .compile .kept .1 .1 .0 in
+    let has = compiled _ (args .n) _ (args .words .now) _ _ _ (sub-zero _) refl (call .compile .ensures) _ done in
+    let long : length (call .compile .last .1 .1 .0) ≡ width * 1024 = call .compile .kept .1 .1 .0 in
     (omega (arith, has .few), has .few)
 
 returns : tie.Need-returns
@@ -49,14 +51,16 @@ returns c =
     let call = c .before .before .before .before .before .before in
     let args = call .before .before .before .before .args in
     let refused = c .before .before .before .compiled .given .1 in
-    refused-listed _ (args .n) (args .words .now) _ _ _ (sub-zero _) refl (call .compile .ensures) _ refused (c .refused .ensures)
+    refused-listed _ (args .n) _ (args .words .now) _ _ _ (sub-zero _) refl (call .compile .ensures) _ (omega arith) refused
+    (c .refused .ensures)
 
 returns-2 : tie.Need-returns-2
 returns-2 c =
     let call = c .before .before .before .before .before .before .before in
     let args = call .before .before .before .before .args in
     let done = c .before .before .before .before .compiled2 .given .1 in
-    compiled-listed _ (args .n) (args .words .now) _ _ _ (sub-zero _) refl (call .compile .ensures) _ done (c .list-code .ensures)
+    let has = compiled _ (args .n) _ (args .words .now) _ _ _ (sub-zero _) refl (call .compile .ensures) _ done in
+    compiled-listed has (c .list-code .ensures)
 
 pub list-table-spec : {M : Type 1} → statement M
 list-table-spec =
