@@ -1,6 +1,5 @@
--- What the answer of `check` tells its callers, and that the contract settles it: two answers that meet it are equal. Nothing is lent
--- to be altered.
-use mathlib.Core.Path.{_≡_, refl, sym, _∙_}
+-- What the answer of `check` tells its callers: the refusal behind it, or that there is none.
+use mathlib.Core.Path.{_≡_, refl}
 use mathlib.Core.List.{List}
 use mathlib.Core.Option.{Option, none, some}
 use Prim.Native.Nat.{ℕ}
@@ -8,9 +7,6 @@ use Rattle.rules.specs.Table.{tableRefusal, Accepted}
 use Rattle.rules.specs.declared.Refusal.{Refusal}
 use Rattle.rules.specs.declared.Checked.{Checked}
 use Rattle.table.specs.Checking.{answer, checking}
-
-pub one-answer : (t : List ℕ) (a b : Checked) → a ≡ checking t → b ≡ checking t → a ≡ b
-one-answer t a b e f = e ∙ sym f
 
 pub answer-done : (o : Option Refusal) → Checked.Done ≡ answer o → o ≡ none
 unfolding answer
@@ -26,10 +22,6 @@ module _ (t : List ℕ) where
   pub done-accepted : Checked.Done ≡ checking t → Accepted t
   unfolding checking
   done-accepted e = answer-done (tableRefusal t) e
-
-  pub accepted-done : Accepted t → checking t ≡ Checked.Done
-  unfolding checking answer
-  accepted-done e = rw e
 
   pub refused-refusal : (r : Refusal) → Checked.Refused r ≡ checking t → tableRefusal t ≡ some r
   unfolding checking
