@@ -9,7 +9,8 @@ use Rattle.table.specs.Checking.{checking}
 use Rattle.compiler.specs.Compiling.{compiling}
 use Rattle.source.specs.SourceRun.{sourceRun}
 use Rattle.code.specs.CodeRun.{codeRun}
-use Rattle.text.specs.Reading.{reading, writing}
+use Rattle.text.specs.Reading.{reading}
+use Rattle.text.specs.Writing.{writing}
 
 -- the table check lends nothing to be altered
 unfoldable pub checkCall : List ℕ → List ℕ

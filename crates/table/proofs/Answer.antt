@@ -1,5 +1,4 @@
--- What the answer of `check` tells its callers, and that the contract settles it: two answers that meet it are equal. Nothing is lent
--- to be altered.
+-- What the answer of a check tells its callers: the refusal behind it, or that there is none.
 use mathlib.Core.Path.{_≡_, refl, sym, _∙_}
 use mathlib.Core.List.{List}
 use mathlib.Core.Option.{Option, none, some}
@@ -8,9 +7,6 @@ use Rattle.rules.specs.Table.{tableRefusal, Accepted}
 use Rattle.rules.specs.declared.Refusal.{Refusal}
 use Rattle.rules.specs.declared.Checked.{Checked}
 use Rattle.table.specs.Checking.{answer, checking}
-
-pub one-answer : (t : List ℕ) (a b : Checked) → a ≡ checking t → b ≡ checking t → a ≡ b
-one-answer t a b e f = e ∙ sym f
 
 pub answer-done : (o : Option Refusal) → Checked.Done ≡ answer o → o ≡ none
 unfolding answer

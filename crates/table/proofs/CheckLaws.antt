@@ -16,7 +16,7 @@ use Rattle.rules.specs.declared.Checked.{Checked}
 use Rattle.rules.proofs.ListLaws.{some-orElse, some-refuseLowest, none-refuseLowest, refuseLowest-none}
 use Rattle.rules.proofs.TableLaws.{fine-once}
 use Rattle.table.specs.Checking.{answer, checking}
-use Rattle.table.specs.Steps.{rowCode, marksOf, treeRefusal, Sound}
+use Rattle.table.specs.inside.Steps.{rowCode, marksOf, treeRefusal, Sound}
 use Rattle.table.proofs.Answer.{answer-done, answer-refused}
 use Rattle.table.proofs.MarkLaws.{marks-say}
 use Rattle.table.proofs.WordLaws.{class-here}
@@ -26,7 +26,7 @@ module _ (t : List ℕ) where
   unfolding checking tableRefusal answer _orElse_ refuse
   refused-1 e = rw e
 
-  pub checking-whole : wholeTable t ≡ true → checking t ≡ answer (refuseLowest (nodeFault t) (nodes t) orElse treeRefusal t)
+  checking-whole : wholeTable t ≡ true → checking t ≡ answer (refuseLowest (nodeFault t) (nodes t) orElse treeRefusal t)
   unfolding checking tableRefusal treeRefusal _orElse_ refuse
   checking-whole e = rw e
 

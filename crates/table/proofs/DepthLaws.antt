@@ -11,7 +11,7 @@ use borrow.Author.Tests.{ltb-true, ltb-false}
 use Rattle.rules.specs.Table.{field, nodes, rowAt, Slot, unused, any, var, child, childIn, children, deepest, depthAt}
 use Rattle.rules.proofs.ListLaws.{Below}
 use Rattle.rules.proofs.TableLaws.{Fills, NodeFits, node-fits, children-below, depth-at}
-use Rattle.table.specs.Steps.{slotCode, Sound, Measured}
+use Rattle.table.specs.inside.Steps.{slotCode, Sound, Measured}
 use Rattle.table.proofs.RowLaws.{rank-small}
 
 deepest-append : (f : ℕ → ℕ) (xs ys : List ℕ) → deepest f (xs ++ ys) ≡ max (deepest f xs) (deepest f ys)
@@ -25,17 +25,17 @@ deepest-below f b [] l h = omega arith
 deepest-below f b (x ∷ xs) l h = omega (arith, h x (l .0), deepest-below f b xs (l .1) h)
 
 -- how deep the word w is: nothing where it is no child
-abbrev pub wordDepth : List ℕ → Slot → ℕ → ℕ
+abbrev wordDepth : List ℕ → Slot → ℕ → ℕ
 wordDepth t s w = deepest (depthAt t) (childIn s w)
 
-pub no-depth : (t : List ℕ) (s : Slot) (w k : ℕ) → slotCode s ≡ k → 4 ≤ k → wordDepth t s w ≡ 0
+no-depth : (t : List ℕ) (s : Slot) (w k : ℕ) → slotCode s ≡ k → 4 ≤ k → wordDepth t s w ≡ 0
 unfolding slotCode childIn deepest
 no-depth t unused w k e h = refl
 no-depth t any w k e h = refl
 no-depth t var w k e h = refl
 no-depth t (child c) w k e h = absurd (omega (arith, rank-small c))
 
-pub child-depth : (t : List ℕ) (s : Slot) (w k : ℕ) → slotCode s ≡ k → k < 4 → wordDepth t s w ≡ depthAt t w
+child-depth : (t : List ℕ) (s : Slot) (w k : ℕ) → slotCode s ≡ k → k < 4 → wordDepth t s w ≡ depthAt t w
 unfolding slotCode childIn deepest
 child-depth t unused w k e h = absurd (omega arith)
 child-depth t any w k e h = absurd (omega arith)

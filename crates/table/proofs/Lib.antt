@@ -1,5 +1,6 @@
--- What the answer of `check` tells, and the laws behind the proofs of its parts.
+-- What the answer of `check` tells, that its contract admits one, and the laws behind the proofs of its parts.
 pub mod Answer
+pub mod Determined
 pub mod RowLaws
 pub mod MarkLaws
 pub mod WordLaws

@@ -11,7 +11,7 @@ use lib.Dec.{eqb}
 use borrow.Author.Tests.{eqb-true, eqb-false}
 use Rattle.rules.specs.Lists.{joined}
 use Rattle.rules.specs.Table.{nodes, children, occurs}
-use Rattle.table.specs.Steps.{bump, bumps, marksOf}
+use Rattle.table.specs.inside.Steps.{bump, bumps, marksOf}
 
 pub bumps-append : (m xs ys : List ℕ) → bumps m (xs ++ ys) ≡ bumps (bumps m xs) ys
 unfolding bumps
@@ -26,7 +26,7 @@ bump-at m k x h l = go (eqb k x) refl
     go true e = let e′ : k ≡ x = eqb-true k x e in rw (e, ← e′) (getD-set-same m k _ 0 h)
     go false e = let ne : k ≡ x → ⊥ = eqb-false k x e in rw e (getD-set-other m x k _ 0 ne ∙ omega arith)
 
-pub bumps-at : (ks m : List ℕ) (k : ℕ) → k < length m → getD m k 0 ≤ 2 → getD (bumps m ks) k 0 ≡ min 2 (getD m k 0 + occurs k ks)
+bumps-at : (ks m : List ℕ) (k : ℕ) → k < length m → getD m k 0 ≤ 2 → getD (bumps m ks) k 0 ≡ min 2 (getD m k 0 + occurs k ks)
 unfolding bumps bump occurs
 bumps-at [] m k h l = omega arith
 bumps-at (x ∷ ks) m k h l =

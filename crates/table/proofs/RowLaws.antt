@@ -1,16 +1,17 @@
 -- A row as a number: its four digits give back the class and the slots, and a slot's number gives back the slot.
 use mathlib.Core.Path.{_≡_, refl, ap}
-use mathlib.Core.List.{List, [], _∷_}
+use mathlib.Core.Bool.{Bool, true}
+use mathlib.Core.List.{List}
 use Prim.Native.Nat.{ℕ, _*_, _/_, _%_, _<_, _≤_}
 use native.Mathlib.Omega.{arith}
 use lib.Dec.{eqb, lit≤}
 use lib.ListN.{getD}
 use borrow.Author.Tests.{eqb-true}
-use Rattle.rules.specs.Lists.{fetch, every}
+use Rattle.rules.specs.Lists.{every}
 use Rattle.rules.specs.Table.{kindOf, rowOf, rowAt, Row, Class, arithmetic, boolean, statement, no-class, rank, Slot, unused, any, var, child}
 use Rattle.rules.proofs.ListLaws.{every-true}
 use Rattle.rules.proofs.KindLaws.{kind-past}
-use Rattle.table.specs.Steps.{slotCode, rowCode, Rows}
+use Rattle.table.specs.inside.Steps.{slotCode, rowCode, Rows}
 
 pub rank-small : (c : Class) → rank c < 4
 rank-small arithmetic = lit≤ tt
@@ -62,20 +63,13 @@ slot-child any k e h = absurd (omega arith)
 slot-child var k e h = absurd (omega arith)
 slot-child (child c) k e h = record { class = c; is = refl; rank-is = e }
 
--- ---- the rows of the code: right at each of the 37 entries, by one test that antt computes; no kind has a number over 36
+-- ---- the rows that the code has: one test, which antt computes at all 37; no kind has a number over 36
 
-unfoldable pub rowsOfCode : List ℕ
-rowsOfCode =
-    13380
-    ∷ 1348 ∷ 1604 ∷ 4 ∷ 4 ∷ 4 ∷ 4 ∷ 4 ∷ 256
-    ∷ 13380 ∷ 13380 ∷ 13380 ∷ 13380 ∷ 13380 ∷ 13380 ∷ 13380
-    ∷ 5188 ∷ 5188 ∷ 4100 ∷ 4100 ∷ 4100 ∷ 4420 ∷ 4372
-    ∷ 13380 ∷ 13380 ∷ 13380 ∷ 13380 ∷ 13380 ∷ 13380 ∷ 13380 ∷ 13380 ∷ 13380
-    ∷ 9284 ∷ 9732 ∷ 8740 ∷ 8482 ∷ 8484 ∷ []
+abbrev rightAt : List ℕ → ℕ → Bool
+rightAt rows k = eqb (getD rows k 0) (rowCode (rowOf (kindOf k)))
 
-pub rows-right : Rows rowsOfCode
-unfolding rowsOfCode every kindOf fetch rowOf rowCode slotCode
-rows-right k h = eqb-true _ _ (every-true (λ k. eqb (getD rowsOfCode k 0) (rowCode (rowOf (kindOf k)))) 37 refl k h)
+pub rows-right : {rows : List ℕ} → every (rightAt rows) 37 ≡ true → Rows rows
+rows-right {rows} e = record { right = λ k h. eqb-true _ _ (every-true (rightAt rows) 37 e k h) }
 
 pub row-past : (k : ℕ) → 37 ≤ k → 13380 ≡ rowCode (rowOf (kindOf k))
 unfolding rowOf rowCode slotCode

@@ -2,14 +2,14 @@
 use mathlib.Core.Path.{_≡_, refl, ap, sym, _∙_}
 use mathlib.Core.Bool.{Bool, true, false}
 use mathlib.Core.List.{List, [], _∷_, _++_}
-use Prim.Native.Nat.{ℕ, _+_, _/_, _%_, _<_, _≤_, min}
+use Prim.Native.Nat.{ℕ, _/_, _%_, _<_, _≤_, min}
 use native.Mathlib.Omega.{arith}
 use lib.Dec.{eqb}
 use borrow.Author.Tests.{eqb-true, eqb-false, eq-eqb, ne-eqb, lt-ltb, le-ltb}
 use Rattle.rules.specs.Refusal.{fine}
 use Rattle.rules.specs.Table.{field, rowAt, rank, Slot, unused, any, var, child, wordFault, nodeFault, childIn, children}
 use Rattle.rules.proofs.TableLaws.{word-most}
-use Rattle.table.specs.Steps.{Greatest, slotCode, rowCode, bumps, Placed, Walked}
+use Rattle.table.specs.inside.Steps.{Greatest, slotCode, rowCode, bumps, Placed, Walked}
 use Rattle.table.proofs.MarkLaws.{bumps-append}
 use Rattle.table.proofs.RowLaws.{row-class, row-p, row-q, row-r, rank-small, slot-unused, slot-child}
 

@@ -1,3 +1,3 @@
--- What `check` answers, and what its private functions promise each other.
+-- What `check` answers (Checking), and what its private functions tell each other (inside).
 pub mod Checking
-pub mod Steps
+pub mod inside

@@ -12,8 +12,8 @@ ghost use lib.ListN.{getD};
 ghost use Rattle.rules.specs.Refusal.{refusal};
 ghost use Rattle.rules.specs.Table.{nodes, root, nodeFault, depthAt};
 ghost use Rattle.table.specs.Checking.{answer, checking};
-ghost use Rattle.table.specs.Steps.{Rows, Greatest, bump, FirstNotOne, Within, PlacedBy, FaultBy, Walked};
-ghost use Rattle.table.specs.Steps.{Sound, Swept, Measured, treeRefusal, Marked};
+ghost use Rattle.table.specs.inside.Steps.{Rows, Greatest, bump, FirstNotOne, Within, PlacedBy, FaultBy, Walked};
+ghost use Rattle.table.specs.inside.Steps.{Sound, Swept, Measured, treeRefusal, Marked};
 
 fn refused(number: u32, place: usize) -> Checked
     requires { ⌜ place < 1024 ⌝ }
@@ -224,10 +224,10 @@ fn check_tree(t: &[u32], rows: &[u32; 37], marks: &[u8; 1024]) -> Checked
     ensures { λ r. ⌜ r ≡ answer (treeRefusal (now (t .entry))) ⌝ }
 {
     let root = t.len() / 4 - 1;
-    let k = first_not_one(marks, root);
     if rows::row_at(t, rows, root) / 4096 != 2 {
         return refused(7, root);
     }
+    let k = first_not_one(marks, root);
     if k < root {
         return refused(8, k);
     }

@@ -3,7 +3,7 @@
 ghost use mathlib.Core.Path.{_≡_};
 ghost use Prim.Native.Nat.{_<_};
 ghost use Rattle.rules.specs.Table.{nodes, rowAt};
-ghost use Rattle.table.specs.Steps.{rowCode, Rows};
+ghost use Rattle.table.specs.inside.Steps.{rowCode, Rows};
 
 pub(crate) const ROWS: [u32; 37] = [
     0x3444,

@@ -1,12 +1,12 @@
 -- `table::check` meets its contract: each part of the answer is that of a call, in the order of the numbers.
-use mathlib.Core.Path.{_≡_, sym, _∙_}
+use mathlib.Core.Path.{_≡_, refl, sym, _∙_}
 use mathlib.Core.Bool.{true}
-use Prim.Native.Nat.{_-_}
 use native.Mathlib.Omega.{arith}
-use Rattle.rules.specs.Table.{wholeTable}
+use Rattle.rules.specs.Lists.{fetch, every}
+use Rattle.rules.specs.Table.{kindOf, rowOf, wholeTable}
 use Rattle.rules.proofs.TableLaws.{whole-table}
-use Rattle.table.specs.Steps.{marksOf, Sound}
-use Rattle.table.proofs.RowLaws.{rowsOfCode, rows-right}
+use Rattle.table.specs.inside.Steps.{slotCode, rowCode, marksOf, Sound}
+use Rattle.table.proofs.RowLaws.{rows-right}
 use Rattle.table.proofs.CheckLaws.{refused-1, refused-2-to-6, sound-nodes, checking-sound}
 use borrow.Author.Needs.{needs}
 use borrow.Author.Tests.{not-true, not-false}
@@ -33,22 +33,23 @@ returns c =
     c .refused .ensures ∙ sym (refused-1 _ (sym (test .before .whole .ensures) ∙ not-true _ (test .if1 .taken)))
 
 walk-requires : tie.Need-walk-requires
-unfolding rowsOfCode
-walk-requires c κs = (whole-table _ (is-whole (c .before .before)) .2, rows-right)
+unfolding every kindOf fetch rowOf rowCode slotCode
+walk-requires c κs = (whole-table _ (is-whole (c .before .before)) .2, rows-right refl)
 
 enum-told : tie.Need-enum-told
 enum-told c = search needs
 
 check-tree-requires : tie.Need-check-tree-requires
-unfolding marksOf rowsOfCode
+unfolding marksOf
 check-tree-requires c κs =
     let told = c .before .before in
-    let w = whole-table _ (is-whole (told .before .before .before .before .before)) in
+    let walk = told .before .before in
+    let w = whole-table _ (is-whole (walk .before .before .before)) in
     record {
       within = record { inside = omega arith; few = w .2 };
       sound = is-sound told;
-      marks = told .before .before .walk .ensures .marked (is-sound told);
-      rows-right = rows-right;
+      marks = walk .walk .ensures .marked (is-sound told);
+      rows-right = walk-requires (walk .before) κs .1;
     }
 
 enum-told-2 : tie.Need-enum-told-2

@@ -1,7 +1,7 @@
 -- `table::child` meets its contract.
 use mathlib.Core.Path.{_∙_, sym, ap}
 use native.Mathlib.Omega.{arith}
-use Rattle.table.specs.Steps.{bumps}
+use Rattle.table.specs.inside.Steps.{bumps}
 use Rattle.table.proofs.WordLaws.{fault-5, fault-6, child-fine, child-named, placed, not-placed}
 use borrow.Author.Needs.{needs}
 use Rattle.table.proofs.child.Statement.{statement}

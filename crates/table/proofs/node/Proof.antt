@@ -4,7 +4,7 @@ use mathlib.Core.List.{List}
 use Prim.Native.Nat.{ℕ}
 use borrow.Author.Tests.{not-true, not-false}
 use Rattle.rules.specs.Table.{rowAt}
-use Rattle.table.specs.Steps.{rowCode}
+use Rattle.table.specs.inside.Steps.{rowCode}
 use Rattle.table.proofs.WordLaws.{slot-p, slot-q, slot-r, unknown-walked, wrong-p, wrong-q, walked}
 use borrow.Author.Needs.{needs}
 use Rattle.table.proofs.node.Statement.{statement}

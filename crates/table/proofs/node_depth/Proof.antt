@@ -6,7 +6,7 @@ use native.Mathlib.Omega.{arith}
 use borrow.Author.Needs.{needs}
 use Rattle.rules.specs.Table.{rowAt, depthAt}
 use Rattle.rules.proofs.TableLaws.{NodeFits}
-use Rattle.table.specs.Steps.{slotCode}
+use Rattle.table.specs.inside.Steps.{slotCode}
 use Rattle.table.proofs.WordLaws.{slot-p, slot-q, slot-r}
 use Rattle.table.proofs.DepthLaws.{fits, child-lower, depth-words, depth-most, word-measured}
 use Rattle.table.proofs.node_depth.Statement.{statement}

@@ -2,6 +2,7 @@
 use mathlib.Core.Path.{sym}
 use mathlib.Core.List.{List}
 use Prim.Native.Nat.{ℕ}
+use native.Mathlib.Omega.{arith}
 use Rattle.table.proofs.WordLaws.{slot-p, slot-q, slot-r, node-2, node-words}
 use borrow.Author.Needs.{needs}
 use Rattle.table.proofs.node_fault.Statement.{statement}
@@ -71,7 +72,7 @@ returns-2 c =
     let p = first .word-fault .ensures _ (slot-p t n _ read) in
     let q = second .word-fault2 .ensures _ (slot-q t n _ read) in
     let r = third .word-fault3 .ensures _ (slot-r t n _ read) in
-    rw (c .lower2 .ensures, c .before .lower .ensures, node-words t n _ read (test .if1 .left), p, q, r)
+    omega (arith, c .lower2 .ensures, c .before .lower .ensures, node-words t n _ read (test .if1 .left), p, q, r)
 
 pub node-fault-spec : {M : Type 1} → statement M
 node-fault-spec =

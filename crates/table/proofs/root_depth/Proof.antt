@@ -5,7 +5,7 @@ use lib.Dec.{lit<}
 use lib.ListN.{length-replicate}
 use borrow.Author.Needs.{needs, scaled-fits}
 use Rattle.rules.specs.Table.{root}
-use Rattle.table.specs.Steps.{Measured}
+use Rattle.table.specs.inside.Steps.{Measured}
 use Rattle.table.proofs.DepthLaws.{measured-more}
 use Rattle.table.proofs.root_depth.Statement.{statement}
 use Rattle.table.proofs.root_depth.Tie as tie

@@ -11,7 +11,7 @@ use Rattle.rules.specs.Refusal.{fine}
 use Rattle.rules.specs.Table.{nodes, nodeFault, children}
 use Rattle.rules.proofs.ListLaws.{some-refuseLowest, none-refuseLowest}
 use Rattle.table.specs.Checking.{answer}
-use Rattle.table.specs.Steps.{bumps}
+use Rattle.table.specs.inside.Steps.{bumps}
 use Rattle.table.proofs.MarkLaws.{marks-next}
 use Rattle.table.proofs.walk.Statement.{statement}
 use Rattle.table.proofs.walk.Tie as tie

@@ -1,7 +1,7 @@
 -- `table::word` meets its contract.
 use mathlib.Core.Path.{sym, ap}
 use native.Mathlib.Omega.{arith}
-use Rattle.table.specs.Steps.{bumps}
+use Rattle.table.specs.inside.Steps.{bumps}
 use Rattle.table.proofs.WordLaws.{none-named, zero-fine, word-fine, word-faulty, placed, not-placed}
 use borrow.Author.Needs.{needs}
 use Rattle.table.proofs.word.Statement.{statement}

@@ -29,7 +29,7 @@ element-copy-out-result c = search needs
 returns : tie.Need-returns
 returns c =
     let start = c .before .before .before in
-    start .pre .1 (getD (start .args .t .now) (4 * start .args .n) 0) (c .before .if1 .taken) ∙ row-read (start .args .t .now) (start .args .n)
+    start .pre .1 .right (getD (start .args .t .now) (4 * start .args .n) 0) (c .before .if1 .taken) ∙ row-read (start .args .t .now) (start .args .n)
 
 returns-2 : tie.Need-returns-2
 returns-2 c =

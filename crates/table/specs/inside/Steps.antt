@@ -29,8 +29,8 @@ unfoldable pub rowCode : Row → ℕ
 rowCode r = 4096 * rank (r .class) + 256 * slotCode (r .p) + 16 * slotCode (r .q) + slotCode (r .r)
 
 -- the rows of the kinds below 37
-abbrev pub Rows : List ℕ → Type 0
-Rows rows = (k : ℕ) → k < 37 → getD rows k 0 ≡ rowCode (rowOf (kindOf k))
+pub record Rows (rows : List ℕ) : Type 0 where
+  pub right : (k : ℕ) → k < 37 → getD rows k 0 ≡ rowCode (rowOf (kindOf k))
 
 -- the greatest word that a slot takes which is no child
 abbrev pub Greatest : ℕ → ℕ → Type 0
