@@ -22,7 +22,7 @@ use Rattle.rules.proofs.TextLaws.{length-textOf, length-wordsOfText}
 use Rattle.rules.proofs.CodeLaws.{length-words}
 use Rattle.rules.proofs.CompilationLaws.{length-compile}
 use Rattle.compiler.specs.Compiling.{compileRefusal, made, done, compiling}
-use Rattle.compiler.proofs.Prescribed.{done-unrefused, refused-exactly}
+use Rattle.compiler.proofs.Promise.{done-unrefused, refused-exactly}
 use Rattle.text.specs.Reading.{reading}
 use Rattle.text.specs.Writing.{writing}
 use Rattle.text.proofs.Endings.{write-done}

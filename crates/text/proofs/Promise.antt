@@ -6,7 +6,8 @@ use denote.Triple.Clauses.{AtExit}
 use borrow.Fn.Kinds.{Dens, endedOf}
 use native.Mathlib.Omega.{arith}
 use Rattle.rules.specs.declared.Text.{Text}
-use Rattle.text.proofs.RoundTrips.{Call, Again, GivesBack, Words, read-write, write-read}
+use Rattle.text.specs.Again.{Call, Again, GivesBack, Words}
+use Rattle.text.proofs.RoundTrips.{read-write, write-read}
 use Rattle.text.proofs.read_text.Kinds as read-kinds
 use Rattle.text.proofs.read_text.Reads as read-text
 use Rattle.text.proofs.write_text.Kinds as write-kinds
