@@ -1,4 +1,4 @@
-// The calls. Each writes its answer, and then what it was lent and left behind, where that is short.
+// The calls. Each writes its answer, and then what stands in the room or the store that it lent, where that is short.
 use crate::parts;
 use crate::show;
 ghost use mathlib.Core.Path.{_≡_};
@@ -19,7 +19,7 @@ fn compile(table: &[u32], start: u32, n: usize) {
     show::words(&words, n);
 }
 
-// A store of zeros but for v1 and v2, and a value more.
+// Zeros but for v1 and v2. A store has 32 values, and one more makes a store that is refused.
 fn store(v1: u32, v2: u32) -> [i32; 33]
     ensures { λ r. ⌜ 33 ≡ length r ⌝ }
 {
@@ -51,7 +51,7 @@ fn code(table: &[u32], code: &[u32], given: Given) {
     show::variables(&values, n);
 }
 
-// The same of the twelve words of code that the table compiles to.
+// The same, of the code that the table compiles to, which has twelve words.
 fn own_code(table: &[u32], given: Given) {
     let mut room = [0u32; 12];
     compiler::compile(table, given.first, &mut room);
@@ -65,12 +65,16 @@ fn read(text: &[u8], n: usize) {
     show::words(&words, n);
 }
 
+fn read_front(lines: &[u8; 33825], n: usize) {
+    read(parts::bytes(lines, 0, n), 4100);
+}
+
 // Reads the first n bytes of 1,025 lines of zeros.
 fn read_zeros(n: usize) {
     let mut lines = [b'0'; 33825];
     lines[33824] = b'\n';
     text::write_text(&[0; 4096], &mut lines);
-    read(parts::bytes(&lines, 0, n), 4100);
+    read_front(&lines, n);
 }
 
 // Writes to the first n bytes of a room, each a point before the call.
@@ -87,20 +91,20 @@ fn list(input: &[u8]) {
     show::say(&out[0..n]);
 }
 
-// The call of this kind. The text that it reads stands behind its line.
-pub(crate) fn call(kind: u8, table: &[u32], laid: &[u32], text: &[u8], given: Given) {
+// The call of this kind. The text that it reads stands below its line.
+pub(crate) fn call(kind: u8, table: &[u32], instructions: &[u32], below: &[u8], given: Given) {
     let first = parts::size(given.first);
     let second = parts::size(given.second);
     match kind {
         b'k' => show::checked(table::check(table)),
         b'j' => compile(table, given.first, second),
         b's' => source(table, given),
-        b'g' => code(table, laid, given),
+        b'g' => code(table, instructions, given),
         b'o' => own_code(table, given),
-        b'r' => read(parts::bytes(text, 0, first), second),
+        b'r' => read(parts::bytes(below, 0, first), second),
         b'z' => read_zeros(first),
         b'w' => write(table, first),
-        b'l' => list(parts::bytes(text, 0, first)),
+        b'l' => list(parts::bytes(below, 0, first)),
         _ => (),
     }
 }

@@ -2,8 +2,9 @@
 use crate::calls;
 use crate::calls::Given;
 use crate::numbers;
+use crate::numbers::ROOM;
+use crate::numbers::Words;
 use crate::parts;
-use crate::parts::Words;
 use crate::show;
 ghost use Prim.Native.Nat.{_<_};
 ghost use lib.ListN.{length};
@@ -41,9 +42,9 @@ fn lay(kind: u8, line: &[u8], words: &mut Words, laid: Laid) -> Laid {
     }
 }
 
-// A listing begins on a line of its own.
-fn title(kind: u8, title: &[u8]) {
-    show::say(title);
+// The title of a call. A listing begins on a line of its own.
+fn title(kind: u8, text: &[u8]) {
+    show::say(text);
     if kind == b'l' {
         show::say(b"\n");
     } else {
@@ -53,7 +54,7 @@ fn title(kind: u8, title: &[u8]) {
 
 // The numbers behind a colon. Where the fourth is left out it is 32, as many values as a store has.
 fn given(behind: &[u8]) -> Given {
-    let mut numbers = [0u32; 8200];
+    let mut numbers = [0u32; ROOM];
     numbers[3] = 32;
     numbers::lay(behind, &mut numbers, 0);
     Given {
@@ -71,7 +72,7 @@ fn call(kind: u8, behind: &[u8], below: &[u8], words: &Words, laid: Laid) {
     calls::call(kind, table, code, below, given(behind));
 }
 
-// The line that the next one follows.
+// A line, up to where the next one begins.
 fn line(text: &[u8], next: usize, place: Place, words: &mut Words) -> Laid {
     let start = place.start;
     let colon = place.colon;
@@ -115,7 +116,7 @@ fn byte(text: &[u8], at: usize, place: Place, words: &mut Words) -> Place
 }
 
 pub(crate) fn run(text: &[u8]) {
-    let mut words = [0u32; 8200];
+    let mut words = [0u32; ROOM];
     let mut place = Place {
         start: 0,
         colon: 0,

@@ -1,6 +1,10 @@
-// Numbers in decimal, as words. A space begins a number, and a minus makes it negative. A number with a star behind it says how many words
-// more there are: each goes on from the word four before it as that goes on from the word eight before.
-use crate::parts::Words;
+// Numbers in decimal, as words. A space begins a number, and a minus makes it negative. A number with a star is how many words more there
+// are: each goes on from the word four before it as that went on from the word four before it.
+
+// Room for the words of a table and of the code behind it.
+pub(crate) const ROOM: usize = 8200;
+
+pub(crate) type Words = [u32; ROOM];
 
 // How many words there are, and whether the last is negative.
 struct Place {
@@ -8,7 +12,7 @@ struct Place {
     minus: bool,
 }
 
-// The word with one digit more.
+// The word with one digit more, modulo 2 ^ 32.
 fn append(word: u32, digit: u8, minus: bool) -> u32 {
     let tens = (10 * (word as u64) % 4294967296) as u32;
     if minus {
@@ -21,7 +25,7 @@ fn append(word: u32, digit: u8, minus: bool) -> u32 {
 fn digit(words: &mut Words, place: Place, d: u8) -> Place {
     let end = place.end;
     if 0 < end {
-        if end <= 8200 {
+        if end <= ROOM {
             words[end - 1] = append(words[end - 1], d, place.minus);
         }
     }
@@ -29,7 +33,7 @@ fn digit(words: &mut Words, place: Place, d: u8) -> Place {
 }
 
 fn begin(words: &mut Words, end: usize) -> Place {
-    if end < 8200 {
+    if end < ROOM {
         words[end] = 0;
         return Place {
             end: end + 1,
@@ -47,7 +51,7 @@ fn following(a: u32, b: u32) -> u32 {
 // One word more.
 fn step(words: &mut Words, end: usize) -> usize {
     if 8 <= end {
-        if end < 8200 {
+        if end < ROOM {
             words[end] = following(words[end - 8], words[end - 4]);
             return end + 1;
         }
@@ -68,7 +72,7 @@ fn steps(words: &mut Words, from: usize, count: u32) -> usize {
 // The last number is how many words follow in its place.
 fn star(words: &mut Words, end: usize) -> Place {
     if 0 < end {
-        if end <= 8200 {
+        if end <= ROOM {
             let count = words[end - 1];
             return Place {
                 end: steps(words, end - 1, count),

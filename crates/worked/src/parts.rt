@@ -1,7 +1,4 @@
-// Parts of slices, for any numbers: what would lie outside is left out.
-
-// Room for the words of a table and of code behind it.
-pub(crate) type Words = [u32; 8200];
+// Parts of slices, at any numbers, so that no caller owes a proof: where they do not lie within the slice the part is empty or the whole.
 
 pub(crate) fn size(n: u32) -> usize {
     n as usize
@@ -12,7 +9,7 @@ pub(crate) fn byte(text: &[u8], at: usize) -> u8 {
     if at < text.len() { text[at] } else { 0 }
 }
 
-// The bytes from one index up to another, or none.
+// The bytes from one index up to another.
 pub(crate) fn bytes(text: &[u8], from: usize, to: usize) -> &[u8] {
     if from <= to {
         if to <= text.len() {
@@ -31,7 +28,7 @@ pub(crate) fn words(words: &[u32], from: usize, to: usize) -> &[u32] {
     &words[..0]
 }
 
-// The first n bytes, or all of fewer.
+// The first n bytes.
 pub(crate) fn byte_room(room: &mut [u8], n: usize) -> &mut [u8] {
     if n <= room.len() {
         return &mut room[0..n];
