@@ -1,17 +1,13 @@
-// The worked runs of document 01 that are not proved, and vectors of our own: each is run, and its answer written.
-mod checking;
-mod code;
-mod compiling;
-mod listings;
+// The worked runs of document 01 that are not proved, and vectors of our own: each is run, and its answer written. They are data, in the
+// file stdin, whose head says how they are written: so a case costs no proof.
+mod calls;
+mod lines;
+mod numbers;
+mod parts;
 mod show;
-mod source;
-mod texts;
 
 fn main() {
-    compiling::cases();
-    checking::cases();
-    source::cases();
-    code::cases();
-    texts::cases();
-    listings::cases();
+    let mut input = [0u8; 32768];
+    let read = io::read_full(0, &mut input);
+    lines::run(&input[..read]);
 }
