@@ -33,7 +33,7 @@ fn store(v1: u32, v2: u32) -> [i32; 33]
 fn source(table: &[u32], given: Given) {
     let mut values = store(given.first, given.second);
     let n = parts::size(given.fourth);
-    show::source_run(run::run_source(table, parts::store(&mut values, n), given.third));
+    show::source_run(source::run_source(table, parts::store(&mut values, n), given.third));
     show::variables(&values, n);
 }
 
@@ -41,7 +41,7 @@ fn source(table: &[u32], given: Given) {
 fn code(table: &[u32], code: &[u32], given: Given) {
     let mut values = store(given.second, 0);
     let n = parts::size(given.fourth);
-    show::code_run(run::run_code(
+    show::code_run(code::run_code(
         table,
         code,
         given.first,
