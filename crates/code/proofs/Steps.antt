@@ -1,6 +1,6 @@
 -- One step, by the operation of the instruction that was read: what may be evaluated, and that what the step leaves is what Fig. 1 says.
-use mathlib.Core.Path.{_≡_, refl, sym, ap, _∙_}
-use mathlib.Core.Bool.{Bool, true, false}
+use mathlib.Core.Path.{_≡_, refl, ap, _∙_}
+use mathlib.Core.Bool.{true, false}
 use mathlib.Core.List.{List}
 use Prim.Native.Nat.{ℕ, _+_, _<_, _≤_}
 use lib.IntN.{ℤ}
@@ -10,7 +10,7 @@ use Rattle.rules.specs.Goto.{Instr, _≔_, goto, ifnot, nextLabel, nextStore}
 use Rattle.rules.specs.Table.{arithmetic, boolean, Class, meaning}
 use Rattle.rules.specs.CodeWords.{part, instructions, instrOf}
 use Rattle.rules.specs.CodeWords.{Rising, instrAt}
-use Rattle.rules.proofs.FetchLaws.{Node, Fields, CodeFacts, code-facts, assign-fields, jump-fields, test-fields, assign-instr, jump-instr, test-instr}
+use Rattle.rules.proofs.FetchLaws.{Node, Fields, CodeFacts, code-facts, assign-fields, test-fields, assign-instr, jump-instr, test-instr}
 use Rattle.evaluate.specs.Ready.{Ready}
 use Rattle.code.specs.inside.Running.{Place, Stands, Stepped}
 

@@ -2,8 +2,8 @@
 mod admission;
 mod labels;
 
-use evaluate::store::put_back;
-use evaluate::store::taken;
+use lent::put_back;
+use lent::taken;
 use rules::Checked;
 use rules::CodeRun;
 use rules::Halt;

@@ -1,4 +1,4 @@
--- What the proofs of several functions cite.
+-- What the proofs of several functions cite, and what the contracts give.
 pub mod Operators
 pub mod Nodes
-pub mod Copies
+pub mod Determined

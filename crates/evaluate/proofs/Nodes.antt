@@ -6,7 +6,6 @@ use Prim.Native.Nat.{ℕ, _+_, _*_, _<_, _≤_}
 use native.Mathlib.Omega.{arith}
 use lib.Dec.{leb}
 use lib.IntN.{ℤ}
-use lib.ListN.{length}
 use lib.Signed.{mag}
 use mir.Syntax.{w32}
 use borrow.Author.Tests.{leb-false}
@@ -15,7 +14,8 @@ use Rattle.rules.specs.Table.{Kind, Class, arithmetic, boolean, field, kindOf, 
 use Rattle.rules.proofs.KindLaws.{arithmetic-range, boolean-range}
 use Rattle.rules.proofs.TableLaws.{accepted-facts, NodeAs, node-as, Child}
 use Rattle.value.proofs.Machine.{back, read-back}
-use Rattle.evaluate.specs.Ready.{Within, Ready}
+use Rattle.lent.specs.Within.{Within}
+use Rattle.evaluate.specs.Ready.{Ready}
 use Rattle.evaluate.specs.inside.Operands.{Value}
 
 -- node n is as its kind says, with its words as the table has them

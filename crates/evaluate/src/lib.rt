@@ -1,30 +1,14 @@
 // The evaluators: the value or the truth of an expression node of an accepted table, on a store. They are for the runs alone, and ask
 // (`requires`) what a run has checked: a caller has to prove it.
 // They take the table by a reference to its slice: a call then passes one pointer on and copies no pair of pointer and length.
-pub mod store;
-
+use lent::place;
+use lent::word;
 ghost use mathlib.Core.Path.{_≡_};
 ghost use Prim.Native.Nat.{_≤_};
 ghost use Rattle.rules.specs.Expression.{apply as applied, holds as held};
-ghost use Rattle.rules.specs.Table.{field, meaning, arithmetic, boolean as booleans};
-ghost use Rattle.evaluate.specs.Ready.{Within, Ready};
+ghost use Rattle.rules.specs.Table.{meaning, arithmetic, boolean as booleans};
+ghost use Rattle.evaluate.specs.Ready.{Ready};
 ghost use Rattle.evaluate.specs.inside.Operands.{operatorOf, relationOf, Leaf, Compound, Operands, Worth};
-
-// Word i of node n.
-pub fn word(t: &&[u32], n: usize, i: usize) -> u32
-    requires { ⌜ Within (now (now t)) n i ⌝ }
-    ensures { λ r. ⌜ r ≡ field (now (now (t .entry))) n i ⌝ }
-{
-    t[4 * n + i]
-}
-
-// The same, as a node or a variable.
-pub fn place(t: &&[u32], n: usize, i: usize) -> usize
-    requires { ⌜ Within (now (now t)) n i ⌝ }
-    ensures { λ r. ⌜ r ≡ field (now (now (t .entry))) n i ⌝ }
-{
-    word(t, n, i) as usize
-}
 
 // The operation of kind k, 3 to 7. By tests, which measure faster than a `match`: that becomes a jump through a table.
 fn apply(k: u32, a: i32, b: i32) -> i32

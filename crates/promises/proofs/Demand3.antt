@@ -3,9 +3,9 @@
 use mathlib.Core.Path.{_≡_, refl, sym, ap, ap₂, _∙_}
 use mathlib.Core.Option.{none}
 use mathlib.Core.List.{List}
-use Prim.Native.Nat.{ℕ, _+_, _-_, _*_, _≤_}
+use Prim.Native.Nat.{ℕ, _+_, _-_, _≤_}
 use native.Mathlib.Omega.{arith}
-use lib.ListN.{length, take}
+use lib.ListN.{length}
 use borrow.Author.Tests.{eq-eqb, le-ltb}
 use contract.Lifetimes.{Lfts}
 use denote.Ref.{now}
@@ -17,7 +17,7 @@ use Rattle.rules.specs.Goto.{run}
 use Rattle.rules.specs.Compilation.{size, compile}
 use Rattle.rules.specs.Table.{meaning, program, Accepted}
 use Rattle.rules.specs.StoreRefusal.{storeRefusal}
-use Rattle.rules.specs.CodeWords.{width, codeOf}
+use Rattle.rules.specs.CodeWords.{codeOf}
 use Rattle.rules.specs.Refusal.{refuse, _orElse_}
 use Rattle.rules.specs.Answer.{ended, compiledWords, sourceRunWords, codeRunWords}
 use Rattle.rules.specs.declared.Made.{Made}

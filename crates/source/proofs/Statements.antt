@@ -7,7 +7,7 @@ use Prim.Native.Nat.{ℕ, zero, suc, _-_, _<_, _≤_}
 use native.Mathlib.Omega.{arith as linear}
 use lib.ListN.{length, set}
 use Rattle.rules.specs.Expression.{Store}
-use Rattle.rules.specs.While.{Stm, Outcome, done, stop, andThen, spend, exec}
+use Rattle.rules.specs.While.{Stm, done, andThen, spend, exec}
 use Rattle.rules.specs.Table.{Kind, treeBy, treeAt, stmOf, meaning}
 use Rattle.rules.proofs.TableLaws.{accepted-facts, NodeAs, node-as, stm-as}
 use Rattle.rules.proofs.WhileLaws.{storeOf, run-length, no-more-left, while-spent, while-ends, while-stops, while-owes, while-again}

@@ -1,10 +1,10 @@
 // The source run: the statements of an accepted table, on a store, within fuel.
 use evaluate::boolean;
-use evaluate::place;
-use evaluate::store::put_back;
-use evaluate::store::taken;
 use evaluate::value_of;
-use evaluate::word;
+use lent::place;
+use lent::put_back;
+use lent::taken;
+use lent::word;
 use rules::Checked;
 use rules::Refusal;
 use rules::SourceRun;

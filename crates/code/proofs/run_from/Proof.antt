@@ -1,9 +1,7 @@
 -- `run_from` meets its contract. The loop's invariant is `Along`: the run that is left ends as the whole run does, and `place`
 -- is where its label stands. The measure is the fuel that is left.
-use mathlib.Core.Path.{sym, _∙_}
-use Prim.Native.Nat.{ℕ, _-_}
+use Prim.Native.Nat.{_-_}
 use native.Mathlib.Omega.{arith}
-use borrow.Author.Needs.{needs}
 use Rattle.rules.proofs.FetchLaws.{code-facts}
 use Rattle.code.proofs.Along.{Along, begun, stands, onward, at-finish, without-fuel}
 use Rattle.code.proofs.run_from.Statement.{statement}

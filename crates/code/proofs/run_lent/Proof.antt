@@ -1,5 +1,5 @@
 -- `run_lent` meets its contract: the run is on a copy of the store, which is put back at the end.
-use mathlib.Core.Path.{_≡_, ap, sym, _∙_}
+use mathlib.Core.Path.{ap, _∙_}
 use borrow.Author.Needs.{needs}
 use lib.ListN.{length}
 use Rattle.code.proofs.Along.{left-length}
@@ -8,8 +8,8 @@ use Rattle.code.proofs.run_lent.Tie as tie
 use Rattle.code.proofs.run_lent.Reads as reads
 use Rattle.code.proofs.run_lent.Lts as lts
 use Rattle.code.proofs.run_from.Reads as run-from-reads
-use Rattle.evaluate.proofs.store.put_back.Reads as put-back-reads
-use Rattle.evaluate.proofs.store.taken.Reads as taken-reads
+use Rattle.lent.proofs.put_back.Reads as put-back-reads
+use Rattle.lent.proofs.taken.Reads as taken-reads
 
 taken-requires : tie.Need-taken-requires
 taken-requires c κs = search needs

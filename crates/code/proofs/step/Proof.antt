@@ -1,6 +1,5 @@
 -- `step` meets its contract: once the three words are read, each operation has its law.
 use mathlib.Core.Path.{sym, _∙_}
-use native.Mathlib.Omega.{arith as linear}
 use borrow.Author.Needs.{needs}
 use Rattle.value.proofs.Machine.{read-back}
 use Rattle.code.specs.inside.Running.{Stands}

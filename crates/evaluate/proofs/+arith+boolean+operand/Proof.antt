@@ -30,8 +30,8 @@ use Rattle.evaluate.proofs.+arith+boolean+operand.Lts-operand as operan
 use Rattle.evaluate.proofs.apply.Reads as apply-reads
 use Rattle.evaluate.proofs.compare.Reads as compare-reads
 use Rattle.evaluate.proofs.leaf.Reads as leaf-reads
-use Rattle.evaluate.proofs.place.Reads as place-reads
-use Rattle.evaluate.proofs.word.Reads as word-reads
+use Rattle.lent.proofs.place.Reads as place-reads
+use Rattle.lent.proofs.word.Reads as word-reads
 use Rattle.evaluate.proofs.+arith+boolean+operand.{statement}
 use Rattle.evaluate.proofs.+arith+boolean+operand.Tie.{close}
 

@@ -1,5 +1,5 @@
 -- `run::evaluate::truth_of` meets its contract: what it works out itself is a comparison of two leaves.
-use mathlib.Core.Path.{_≡_, refl, sym, ap₂, _∙_}
+use mathlib.Core.Path.{refl, sym, ap₂, _∙_}
 use Prim.Native.Nat.{_≤_}
 use lib.Dec.{lit<}
 use borrow.Author.Tests.{leb-true}

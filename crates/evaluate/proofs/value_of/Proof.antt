@@ -1,5 +1,5 @@
 -- `run::evaluate::value_of` meets its contract: what it works out itself is a leaf, or an operation on two leaves.
-use mathlib.Core.Path.{_≡_, refl, sym, ap₂, _∙_}
+use mathlib.Core.Path.{refl, sym, ap₂, _∙_}
 use Prim.Native.Nat.{_≤_}
 use native.Mathlib.Omega.{arith}
 use lib.Dec.{lit<}

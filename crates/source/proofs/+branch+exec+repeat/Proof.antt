@@ -27,8 +27,8 @@ use Rattle.source.proofs.repeat.Reads as repeat
 use Rattle.source.proofs.repeat.Kinds as repeat-kinds
 use Rattle.source.proofs.+branch+exec+repeat.Lts-repeat as repeat-lts
 use Rattle.evaluate.proofs.boolean.Reads as boolean-reads
-use Rattle.evaluate.proofs.place.Reads as place-reads
-use Rattle.evaluate.proofs.word.Reads as word-reads
+use Rattle.lent.proofs.place.Reads as place-reads
+use Rattle.lent.proofs.word.Reads as word-reads
 use Rattle.source.proofs.assign.Reads as assign-reads
 use Rattle.source.proofs.pay.Reads as pay-reads
 use Rattle.source.proofs.+branch+exec+repeat.{statement}

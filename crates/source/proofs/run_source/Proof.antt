@@ -1,14 +1,12 @@
 -- `run_source` meets its contract: the table's refusals, then the store's, then the run of the root's statement on a copy of the store,
 -- which is put back at the end.
-use mathlib.Core.Path.{_≡_, refl, ap, sym, _∙_}
+use mathlib.Core.Path.{_≡_, ap, sym, _∙_}
 use Prim.Native.Nat.{_+_, _≤_}
 use native.Mathlib.Omega.{arith}
 use borrow.Author.Needs.{needs}
 use lib.ListN.{length}
-use Rattle.rules.specs.Table.{Accepted, program}
-use Rattle.rules.specs.Answer.{ended}
+use Rattle.rules.specs.Table.{Accepted}
 use Rattle.rules.proofs.TableLaws.{Facts, accepted-facts}
-use Rattle.source.specs.SourceRun.{sourceEnd}
 use Rattle.table.proofs.Answer.{accepted, refused}
 use Rattle.source.proofs.Statements.{ran-length, left-most}
 use Rattle.source.proofs.Endings.{table-refused, store-refused, source-spent, source-finished}
@@ -17,8 +15,8 @@ use Rattle.source.proofs.run_source.Tie as tie
 use Rattle.source.proofs.run_source.Reads as reads
 use Rattle.source.proofs.run_source.Lts as lts
 use Rattle.source.proofs.exec.Reads as exec-reads
-use Rattle.evaluate.proofs.store.put_back.Reads as put-back-reads
-use Rattle.evaluate.proofs.store.taken.Reads as taken-reads
+use Rattle.lent.proofs.put_back.Reads as put-back-reads
+use Rattle.lent.proofs.taken.Reads as taken-reads
 use Rattle.table.proofs.check.Reads as check-reads
 
 abbrev calls : lts.Claims

@@ -1,10 +1,11 @@
--- `run::store::taken` meets its contract. The loop's invariant: the first i values are copied.
+-- `taken` meets its contract. The loop's invariant: the first i values are copied.
 use Prim.Native.Nat.{_-_}
+use native.Mathlib.Omega.{arith}
 use borrow.Author.Needs.{needs}
 use Rattle.value.proofs.Machine.{read-back}
-use Rattle.evaluate.proofs.Copies.{Copied, one-more, whole}
-use Rattle.evaluate.proofs.store.taken.Statement.{statement}
-use Rattle.evaluate.proofs.store.taken.Tie as tie
+use Rattle.lent.proofs.Copies.{Copied, one-more, whole}
+use Rattle.lent.proofs.taken.Statement.{statement}
+use Rattle.lent.proofs.taken.Tie as tie
 
 abbrev Inv-loop : tie.InvT-loop
 Inv-loop s v₀ i₀ v i = Copied 32 i s v
@@ -34,10 +35,10 @@ loop-less : tie.Need-loop-less Inv-loop μ-loop
 loop-less c = search needs
 
 loop-again : tie.Need-loop-again Inv-loop μ-loop
-loop-again c = one-more (c .before .before .loop .inv) (c .before .loop-test .taken) _ (read-back _ (c .v .given))
+loop-again c = one-more (c .before .before .loop .inv) (omega arith) _ (read-back _ (c .v .given))
 
 returns : tie.Need-returns Inv-loop μ-loop
-returns c = whole (c .before .loop .inv) (c .loop-test .left)
+returns c = whole (c .before .loop .inv) (omega arith)
 
 pub taken-spec : {M : Type 1} → statement M
 taken-spec =

@@ -1,16 +1,17 @@
--- `run::store::put_back` meets its contract. The loop's invariant: the first i values are copied.
+-- `put_back` meets its contract. The loop's invariant: the first k values are copied.
 use Prim.Native.Nat.{_-_}
+use native.Mathlib.Omega.{arith}
 use borrow.Author.Needs.{needs}
 use Rattle.value.proofs.Machine.{read-back}
-use Rattle.evaluate.proofs.Copies.{Copied, one-more, whole}
-use Rattle.evaluate.proofs.store.put_back.Statement.{statement}
-use Rattle.evaluate.proofs.store.put_back.Tie as tie
+use Rattle.lent.proofs.Copies.{Copied, one-more, whole}
+use Rattle.lent.proofs.put_back.Statement.{statement}
+use Rattle.lent.proofs.put_back.Tie as tie
 
 abbrev Inv-loop : tie.InvT-loop
-Inv-loop s₀ v i₀ s i = Copied 32 i v s
+Inv-loop s₀ v k₀ s k = Copied 32 k v s
 
 abbrev μ-loop : tie.MeasureT-loop
-μ-loop s₀ v i₀ s i = 32 - i
+μ-loop s₀ v k₀ s k = 32 - k
 
 loop-holds : tie.Need-loop-holds Inv-loop μ-loop
 loop-holds c = search needs
@@ -27,20 +28,20 @@ mul-t9 c = search needs
 slice-set-from-s : tie.Need-slice-set-from-s Inv-loop μ-loop
 slice-set-from-s c = search needs
 
-add-i : tie.Need-add-i Inv-loop μ-loop
-add-i c = search needs
+add-k : tie.Need-add-k Inv-loop μ-loop
+add-k c = search needs
 
 loop-less : tie.Need-loop-less Inv-loop μ-loop
 loop-less c = search needs
 
 loop-again : tie.Need-loop-again Inv-loop μ-loop
-loop-again c = one-more (c .before .before .loop .inv) (c .before .loop-test .taken) _ (read-back _ (c .s .given))
+loop-again c = one-more (c .before .before .loop .inv) (omega arith) _ (read-back _ (c .s .given))
 
 same-length : tie.Need-same-length Inv-loop μ-loop
 same-length c = search needs
 
 returns : tie.Need-returns Inv-loop μ-loop
-returns c = whole (c .before .loop .inv) (c .loop-test .left)
+returns c = whole (c .before .loop .inv) (omega arith)
 
 pub put-back-spec : {M : Type 1} → statement M
 put-back-spec =
@@ -53,7 +54,7 @@ put-back-spec =
     element-copy-out-s
     mul-t9
     slice-set-from-s
-    add-i
+    add-k
     loop-less
     loop-again
     same-length

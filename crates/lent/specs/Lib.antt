@@ -1,0 +1,2 @@
+-- What reading a lent table asks.
+pub mod Within
