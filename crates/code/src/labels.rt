@@ -1,5 +1,5 @@
 // The instruction that bears a label.
-use crate::part;
+use lent::part;
 use rules::WIDTH;
 ghost use mathlib.Core.Path.{_≡_};
 ghost use Prim.Native.Nat.{_+_, _<_, _≤_};

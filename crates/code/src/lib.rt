@@ -1,30 +1,24 @@
 // The code run: the steps of Fig. 1 within fuel, on a table, code, start label and store that are checked first.
-mod admission;
 mod labels;
 
+use lent::part;
 use lent::put_back;
 use lent::taken;
 use rules::Checked;
 use rules::CodeRun;
 use rules::Halt;
+use rules::Refusal;
 use rules::WIDTH;
 ghost use mathlib.Core.Path.{_≡_};
-ghost use Prim.Native.Nat.{_+_, _*_, _<_};
-ghost use lib.ListN.{length};
 ghost use Rattle.rules.specs.Answer.{ended};
+ghost use Rattle.rules.specs.declared.Checked.{Checked};
 ghost use Rattle.rules.specs.Goto.{run};
+ghost use Rattle.rules.specs.Refusal.{refusal};
 ghost use Rattle.rules.specs.Table.{meaning};
-ghost use Rattle.rules.specs.CodeWords.{width, part as partOf, codeOf};
-ghost use Rattle.code.specs.CodeRun.{codeEnd, codeRun};
+ghost use Rattle.rules.specs.CodeWords.{codeOf};
+ghost use Rattle.table.specs.Checking.{answer};
+ghost use Rattle.code.specs.CodeRun.{codeRunRefusal, codeEnd, codeRun};
 ghost use Rattle.code.specs.inside.Running.{Admitted, Stands, Stepped};
-
-// Word i of instruction k.
-fn part(c: &[u32], k: usize, i: usize) -> u32
-    requires { ⌜ width * k + i < length (now c) ⌝ }
-    ensures { λ r. ⌜ r ≡ partOf (now (c .entry)) k i ⌝ }
-{
-    c[WIDTH * k + i]
-}
 
 // One step of Fig. 1, by instruction k.
 fn step(t: &&[u32], c: &[u32], k: usize, store: &mut [i32; 32]) -> labels::Spot
@@ -84,11 +78,34 @@ fn run_lent(t: &[u32], c: &[u32], start: u32, store: &mut [i32], fuel: u32) -> C
     ran
 }
 
+fn refused(number: u32) -> Checked
+    ensures { λ r. ⌜ r ≡ Checked.Refused (refusal number 0) ⌝ }
+{
+    Checked::Refused(Refusal { number, place: 0 })
+}
+
+// Refusals 1 to 11 and 13, in this order.
+fn admit(table: &[u32], code: &[u32], start: u32, store: &[i32]) -> Checked
+    ensures { λ r. ⌜ r ≡ answer (codeRunRefusal (now (table .entry)) (now (code .entry)) start (now (store .entry))) ⌝ }
+{
+    let checked = table::check(table);
+    if let Checked::Refused(r) = checked {
+        return Checked::Refused(r);
+    }
+    if store.len() != 32 {
+        return refused(10);
+    }
+    if 65535 < start {
+        return refused(11);
+    }
+    instructions::check_code(table, code)
+}
+
 // The steps of the code from the start label, on the store.
 pub fn run_code(table: &[u32], code: &[u32], start: u32, store: &mut [i32], fuel: u32) -> CodeRun
     ensures { λ r. ⌜ ended r (now (store .exit)) ≡ codeRun (now (table .entry)) (now (code .entry)) start (now (store .entry)) fuel ⌝ }
 {
-    let admitted = admission::admit(table, code, start, store);
+    let admitted = admit(table, code, start, store);
     match admitted {
         Checked::Refused(r) => CodeRun::Refused(r),
         Checked::Done => run_lent(table, code, start, store, fuel),

@@ -9,6 +9,8 @@ use Rattle.lent.proofs.word.Kinds as word-kinds
 use Rattle.lent.proofs.word.Reads as word
 use Rattle.lent.proofs.place.Kinds as place-kinds
 use Rattle.lent.proofs.place.Reads as place
+use Rattle.lent.proofs.part.Kinds as part-kinds
+use Rattle.lent.proofs.part.Reads as part
 use Rattle.lent.proofs.taken.Kinds as taken-kinds
 use Rattle.lent.proofs.taken.Reads as taken
 use Rattle.lent.proofs.put_back.Kinds as put-back-kinds
@@ -19,6 +21,9 @@ word-determined κs a x y s t p q = p ∙ sym q
 
 pub place-determined : OneAnswer 2 place-kinds.ps place-kinds.r place.Post
 place-determined κs a x y s t p q = p ∙ sym q
+
+pub part-determined : OneAnswer 1 part-kinds.ps part-kinds.r part.Post
+part-determined κs a x y s t p q = p ∙ sym q
 
 pub taken-determined : OneAnswer 1 taken-kinds.ps taken-kinds.r taken.Post
 taken-determined κs a x y s t p q = p ∙ sym q

@@ -1,8 +1,11 @@
-// How a run reads the table that it is lent, and keeps the store. These are for the runs alone, and ask (`requires`) what a run has checked:
+// How a run reads the table and the code that it is lent, and keeps the store. These are for the runs alone, and ask (`requires`) what a run has checked:
 // a caller has to prove it.
+use rules::WIDTH;
 ghost use mathlib.Core.Path.{_≡_};
+ghost use Prim.Native.Nat.{_+_, _*_, _<_};
 ghost use lib.ListN.{length};
 ghost use Rattle.rules.specs.Table.{field};
+ghost use Rattle.rules.specs.CodeWords.{width, part as partOf};
 ghost use Rattle.lent.specs.Within.{Within};
 
 // Word i of node n.
@@ -19,6 +22,14 @@ pub fn place(t: &&[u32], n: usize, i: usize) -> usize
     ensures { λ r. ⌜ r ≡ field (now (now (t .entry))) n i ⌝ }
 {
     word(t, n, i) as usize
+}
+
+// Word i of instruction k.
+pub fn part(c: &[u32], k: usize, i: usize) -> u32
+    requires { ⌜ width * k + i < length (now c) ⌝ }
+    ensures { λ r. ⌜ r ≡ partOf (now (c .entry)) k i ⌝ }
+{
+    c[WIDTH * k + i]
 }
 
 // A run keeps its store in an array of its own, which a call passes on as one pointer: taken at the start, put back at the end.

@@ -2,8 +2,8 @@
 use native.Mathlib.Nat.{add-zero}
 use borrow.Author.Needs.{needs}
 use borrow.Author.Tests.{lt-ltb, le-ltb}
-use Rattle.code.proofs.admission.is_node.Statement.{statement}
-use Rattle.code.proofs.admission.is_node.Tie as tie
+use Rattle.instructions.proofs.is_node.Statement.{statement}
+use Rattle.instructions.proofs.is_node.Tie as tie
 
 mul-kind : tie.Need-mul-kind
 mul-kind c = search needs

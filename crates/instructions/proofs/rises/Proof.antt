@@ -3,8 +3,8 @@ use mathlib.Core.Path.{sym}
 use native.Mathlib.Omega.{arith}
 use borrow.Author.Needs.{needs}
 use Rattle.rules.proofs.FetchLaws.{rises-first, rises-later}
-use Rattle.code.proofs.admission.rises.Statement.{statement}
-use Rattle.code.proofs.admission.rises.Tie as tie
+use Rattle.instructions.proofs.rises.Statement.{statement}
+use Rattle.instructions.proofs.rises.Tie as tie
 
 returns : tie.Need-returns
 returns c = sym (rises-first _ _ (c .if1 .taken))

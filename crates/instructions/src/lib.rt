@@ -1,5 +1,5 @@
-// What a code run refuses: 1 to 11 and 13, in this order.
-use crate::part;
+// The check of jump code over a table: refusal 13.
+use lent::part;
 use rules::Checked;
 use rules::Refusal;
 use rules::WIDTH;
@@ -12,12 +12,11 @@ ghost use Rattle.rules.specs.Refusal.{fine, refusal};
 ghost use Rattle.rules.specs.Table.{field, nodes};
 ghost use Rattle.rules.specs.CodeWords.{instructions, fieldsFit, rises as labelsRise, codeFault, codeRefusal};
 ghost use Rattle.table.specs.Checking.{answer};
-ghost use Rattle.code.specs.CodeRun.{codeRunRefusal};
 
-fn refused(number: u32, place: u32) -> Checked
-    ensures { λ r. ⌜ r ≡ Checked.Refused (refusal number place) ⌝ }
+fn refused(place: u32) -> Checked
+    ensures { λ r. ⌜ r ≡ Checked.Refused (refusal 13 place) ⌝ }
 {
-    Checked::Refused(Refusal { number, place })
+    Checked::Refused(Refusal { number: 13, place })
 }
 
 // Whether n is a node whose kind lies from low to high.
@@ -65,37 +64,21 @@ fn obeys(t: &[u32], c: &[u32], k: usize) -> bool
 }
 
 // "word count (place 0), then any field, rising labels, node classes": the first instruction against the rules.
-fn check_code(t: &[u32], c: &[u32]) -> Checked
+pub fn check_code(t: &[u32], c: &[u32]) -> Checked
     ensures { λ r. ⌜ r ≡ answer (codeRefusal (now (t .entry)) (now (c .entry))) ⌝ }
 {
     let words = c.len();
     let whole = (words % WIDTH == 0) & (words <= WIDTH * 1024);
     if !whole {
-        return refused(13, 0);
+        return refused(0);
     }
     let count = words / WIDTH;
     let mut k = 0;
     while k < count {
         if !obeys(t, c, k) {
-            return refused(13, k as u32);
+            return refused(k as u32);
         }
         k += 1;
     }
     Checked::Done
-}
-
-pub(crate) fn admit(table: &[u32], code: &[u32], start: u32, store: &[i32]) -> Checked
-    ensures { λ r. ⌜ r ≡ answer (codeRunRefusal (now (table .entry)) (now (code .entry)) start (now (store .entry))) ⌝ }
-{
-    let checked = table::check(table);
-    if let Checked::Refused(r) = checked {
-        return Checked::Refused(r);
-    }
-    if store.len() != 32 {
-        return refused(10, 0);
-    }
-    if 65535 < start {
-        return refused(11, 0);
-    }
-    check_code(table, code)
 }

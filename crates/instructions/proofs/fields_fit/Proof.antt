@@ -3,8 +3,8 @@ use borrow.Author.Needs.{needs}
 use borrow.Author.Tests.{ne-eqb}
 use Rattle.rules.specs.CodeWords.{fieldsFit}
 use Rattle.rules.proofs.FetchLaws.{arithmetic-node, boolean-node}
-use Rattle.code.proofs.admission.fields_fit.Statement.{statement}
-use Rattle.code.proofs.admission.fields_fit.Tie as tie
+use Rattle.instructions.proofs.fields_fit.Statement.{statement}
+use Rattle.instructions.proofs.fields_fit.Tie as tie
 
 is-node-requires : tie.Need-is-node-requires
 is-node-requires c κs = search needs

@@ -13,8 +13,8 @@ use Rattle.rules.specs.CodeWords.{width, instructions, wholeCode, codeFault}
 use Rattle.rules.proofs.ListLaws.{and-true}
 use Rattle.rules.proofs.FetchLaws.{refused-count, refused-at, not-refused}
 use Rattle.table.specs.Checking.{answer}
-use Rattle.code.proofs.admission.check_code.Statement.{statement}
-use Rattle.code.proofs.admission.check_code.Tie as tie
+use Rattle.instructions.proofs.check_code.Statement.{statement}
+use Rattle.instructions.proofs.check_code.Tie as tie
 
 abbrev Inv-loop : tie.InvT-loop
 Inv-loop t c words whole count k₀ k = (k ≤ instructions c) × ((j : ℕ) → j < k → codeFault t c j ≡ fine)

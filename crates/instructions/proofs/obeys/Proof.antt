@@ -5,8 +5,8 @@ use lib.Dec.{eqb}
 use borrow.Author.Needs.{needs}
 use Rattle.rules.specs.Refusal.{fine}
 use Rattle.rules.specs.CodeWords.{codeFault}
-use Rattle.code.proofs.admission.obeys.Statement.{statement}
-use Rattle.code.proofs.admission.obeys.Tie as tie
+use Rattle.instructions.proofs.obeys.Statement.{statement}
+use Rattle.instructions.proofs.obeys.Tie as tie
 
 part-requires : tie.Need-part-requires
 part-requires c κs = search needs

@@ -4,8 +4,8 @@ use borrow.Author.Needs.{needs}
 use Rattle.rules.specs.Table.{Accepted}
 use Rattle.table.proofs.Answer.{accepted, refused}
 use Rattle.code.proofs.Order.{refused-table, refused-store, refused-start, code-decides}
-use Rattle.code.proofs.admission.admit.Statement.{statement}
-use Rattle.code.proofs.admission.admit.Tie as tie
+use Rattle.code.proofs.admit.Statement.{statement}
+use Rattle.code.proofs.admit.Tie as tie
 
 is-accepted : (c : tie.After-enum-told) → Accepted (c .before .before .before .before .before .args .table .now)
 is-accepted c = accepted _ (c .before .before .check .ensures) (c .enum-told .given .1)

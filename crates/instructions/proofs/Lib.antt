@@ -1,0 +1,2 @@
+-- What the contract gives.
+pub mod Determined
