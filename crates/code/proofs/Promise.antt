@@ -1,7 +1,7 @@
 -- What the contract of `run_code` gives: one answer with one store after it, and demand 2, for any answer that meets it. Assumes nothing.
 use mathlib.Core.Path.{_≡_, refl, sym, ap, _∙_}
 use mathlib.Core.List.{List}
-use mathlib.Core.Option.{Option, none, some}
+use mathlib.Core.Option.{none}
 use Prim.Native.Nat.{ℕ, _+_, _-_, _≤_}
 use native.Mathlib.Omega.{arith}
 use contract.Lifetimes.{Lfts}
@@ -14,12 +14,11 @@ use Rattle.rules.specs.Goto as goto
 use Rattle.rules.specs.Goto.{Code, InDom, Steps, Halted, out, run}
 use Rattle.rules.specs.Table.{meaning}
 use Rattle.rules.specs.CodeWords.{codeOf}
-use Rattle.rules.specs.Answer.{ended, unlessRefused}
-use Rattle.rules.specs.declared.Refusal.{Refusal}
+use Rattle.rules.specs.Answer.{ended}
 use Rattle.rules.specs.declared.CodeRun.{CodeRun}
 use Rattle.rules.proofs.FetchLaws.{code-facts, codeOf-wellformed}
 use Rattle.rules.proofs.GotoLaws.{in-fetched, outside, run-out, run-finished, run-steps, finished-steps, out-steps}
-use Rattle.rules.proofs.EndedLaws.{answer-is, after-is, one-end, ends-unrefused}
+use Rattle.rules.proofs.EndedLaws.{answer-is, after-is, one-end, ends-unrefused, either-end}
 use Rattle.code.specs.CodeRun.{codeRunRefusal, codeEnd, codeRun}
 use Rattle.code.specs.CodeSays.{halt, CodeSays, refused, finished, out-of-fuel}
 use Rattle.code.proofs.Order.{admitted}
@@ -40,15 +39,12 @@ module _ (t c : List ℕ) (start : ℕ) (σ : Store) (fuel : ℕ) where
   told (goto.finished ℓ σ′ left) q e = let steps = finished-steps M C fuel start σ q in finished e (steps .steps) (omega arith) (steps .stuck)
   told (out ℓ σ′) q e = let steps = out-steps M C fuel start σ q in out-of-fuel e (steps .steps) (steps .goes-on)
 
-  answers : (o : Option Refusal) → codeRunRefusal t c start σ ≡ o
-      → (let end = unlessRefused CodeRun.Refused o σ (codeEnd fuel (run M C fuel start σ)) in CodeSays t c start σ fuel (end .answer) (end .after))
-  unfolding unlessRefused
-  answers (some r) e = refused r e
-  answers none e = told (run M C fuel start σ) refl e
-
   code-says : (r : CodeRun) (σ′ : Store) → ended r σ′ ≡ codeRun t c start σ fuel → CodeSays t c start σ fuel r σ′
   unfolding codeRun
-  code-says r σ′ met = rw (answer-is met, after-is met) (answers (codeRunRefusal t c start σ) refl)
+  code-says r σ′ met =
+      rw (answer-is met, after-is met)
+      (either-end CodeRun.Refused (codeRunRefusal t c start σ) σ (codeEnd fuel (run M C fuel start σ))
+      (λ end. CodeSays t c start σ fuel (end .answer) (end .after)) (λ q e. refused q e) (λ e. told (run M C fuel start σ) refl e))
 
   -- and the other way: the steps of Fig. 1 decide the answer
   module _ (none-refused : codeRunRefusal t c start σ ≡ none) where

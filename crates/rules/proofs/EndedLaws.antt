@@ -8,8 +8,6 @@ use native.Mathlib.Omega.{arith}
 use Rattle.rules.specs.Answer.{Ended, ended, unlessRefused}
 use Rattle.rules.specs.declared.Refusal.{Refusal}
 use Rattle.rules.specs.declared.Compiled.{Compiled}
-use Rattle.rules.specs.declared.SourceRun.{SourceRun}
-use Rattle.rules.specs.declared.CodeRun.{CodeRun}
 use Rattle.rules.specs.declared.Text.{Text}
 
 module _ {Answer Word : Type 0} {end : Ended Answer Word} {x : Answer} {l : List Word} where
@@ -33,18 +31,6 @@ pub record Carries {Answer : Type 0} (refusal : Refusal → Answer) : Type 0 whe
 abbrev pub compiled-carries : Carries Compiled.Refused
 compiled-carries = record { carried = λ x. elim x [ Compiled.Done m ↦ none | Compiled.Refused r ↦ some r ]; reads = λ r. refl }
 
-abbrev pub source-carries : Carries SourceRun.Refused
-source-carries = record {
-  carried = λ x. elim x [ SourceRun.Finished n ↦ none | SourceRun.OutOfFuel n ↦ none | SourceRun.Refused r ↦ some r ];
-  reads = λ r. refl;
-}
-
-abbrev pub code-carries : Carries CodeRun.Refused
-code-carries = record {
-  carried = λ x. elim x [ CodeRun.Finished h ↦ none | CodeRun.OutOfFuel h ↦ none | CodeRun.Refused r ↦ some r ];
-  reads = λ r. refl;
-}
-
 abbrev pub text-carries : Carries Text.Refused
 text-carries = record { carried = λ x. elim x [ Text.Done n ↦ none | Text.Refused r ↦ some r ]; reads = λ r. refl }
 
@@ -61,6 +47,14 @@ module _ {Answer Word : Type 0} (refusal : Refusal → Answer) (o : Option Refus
   pub ends-unrefused : o ≡ none → unlessRefused refusal o lent end ≡ end
   unfolding unlessRefused
   ends-unrefused e = rw e
+
+-- what holds of each of the two ends holds of the call's
+pub either-end : {Answer Word : Type 0} (refusal : Refusal → Answer) (o : Option Refusal) (lent : List Word) (end : Ended Answer Word)
+    (P : Ended Answer Word → Type 0) → ((r : Refusal) → o ≡ some r → P (ended (refusal r) lent)) → (o ≡ none → P end)
+    → P (unlessRefused refusal o lent end)
+unfolding unlessRefused
+either-end refusal (some r) lent end P refused unrefused = refused r refl
+either-end refusal none lent end P refused unrefused = unrefused refl
 
 module _ {Answer Word : Type 0} {refusal : Refusal → Answer} (c : Carries refusal) where
   -- an answer that carries no refusal came from a call without one

@@ -1,6 +1,6 @@
 -- What the contract of `run_source` gives: one answer with one store after it, and demand 2, for any answer that meets it. Assumes nothing.
 use mathlib.Core.Path.{_≡_, refl, sym, subst, _∙_}
-use mathlib.Core.Option.{Option, none, some}
+use mathlib.Core.Option.{none}
 use mathlib.Core.List.{List}
 use Prim.Native.Nat.{ℕ, _-_}
 use native.Mathlib.Omega.{arith}
@@ -11,11 +11,10 @@ use borrow.Fn.Kinds.{Dens, endedOf}
 use Rattle.rules.specs.Expression.{Store}
 use Rattle.rules.specs.While.{count, Outcome, done, stop, exec}
 use Rattle.rules.specs.Table.{meaning, program}
-use Rattle.rules.specs.Answer.{ended, unlessRefused}
-use Rattle.rules.specs.declared.Refusal.{Refusal}
+use Rattle.rules.specs.Answer.{ended}
 use Rattle.rules.specs.declared.SourceRun.{SourceRun}
 use Rattle.rules.proofs.WhileLaws.{Says, evaluated, unfinished, says, finds}
-use Rattle.rules.proofs.EndedLaws.{answer-is, after-is, one-end}
+use Rattle.rules.proofs.EndedLaws.{answer-is, after-is, one-end, either-end}
 use Rattle.source.specs.SourceRun.{sourceRefusal, sourceEnd, sourceRun}
 use Rattle.source.specs.SourceSays.{SourceSays, refused, finished, out-of-fuel}
 use Rattle.source.proofs.run_source.Kinds.{ps, r}
@@ -33,16 +32,13 @@ module _ (t : List ℕ) (σ : Store) (n : ℕ) where
       stopped : {τ : Store} {left : ℕ} → stop σ′ ≡ done τ left → ⊥
       stopped {τ} {left} clash = let z : _≡_ {A = ℕ} 0 1 = cc in omega arith
 
-  answers : (o : Option Refusal) → sourceRefusal t σ ≡ o
-      → (let end = unlessRefused SourceRun.Refused o σ (sourceEnd n (exec (meaning t) (program t) n σ)) in SourceSays t σ n (end .answer) (end .after))
-  unfolding unlessRefused
-  answers (some r) e = refused r e
-  answers none e = told (exec (meaning t) (program t) n σ) refl e (says (meaning t) (program t) n σ)
-
   source-says : (r : SourceRun) (σ′ : Store) → ended r σ′ ≡ sourceRun t σ n → SourceSays t σ n r σ′
   unfolding sourceRun
   source-says r σ′ met =
-      rw (answer-is met, after-is met) (answers (sourceRefusal t σ) refl)
+      rw (answer-is met, after-is met)
+      (either-end SourceRun.Refused (sourceRefusal t σ) σ (sourceEnd n (exec (meaning t) (program t) n σ))
+      (λ end. SourceSays t σ n (end .answer) (end .after)) (λ q e. refused q e)
+      (λ e. told (exec (meaning t) (program t) n σ) refl e (says (meaning t) (program t) n σ)))
 
 module _ (κs : Lfts 2) (a : Dens κs ps) where
   pub run-source-determined : (x y : SourceRun) (s t : AtExit (endedOf 2 ps r) κs) → Post κs a x s → Post κs a y t
