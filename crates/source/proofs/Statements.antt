@@ -125,10 +125,10 @@ module _ {t : List ℕ} {n p q r : ℕ} where
       loop-stops (suc zero) b e k = record { is = sym (passes σ h ∙ while-owes (meaning t) p _ σ (c - 1 - 1) b (sym (e .is))) }
       loop-stops (suc (suc m)) b e k = absurd (omega linear)
 
-      pub loop-again : {σ₁ : Store} (m : ℕ) → meaning t .holds p σ ≡ true → Ran t q (c - 1) σ m σ₁ → 1 < m → runs t n c σ ≡ runs t n (m - 1) σ₁
+      pub loop-goes-on : {σ₁ : Store} (m : ℕ) → meaning t .holds p σ ≡ true → Ran t q (c - 1) σ m σ₁ → 1 < m → runs t n c σ ≡ runs t n (m - 1) σ₁
       unfolding outcome
-      loop-again zero b e k = absurd (omega linear)
-      loop-again (suc zero) b e k = absurd (omega linear)
-      loop-again {σ₁} (suc (suc m)) b e k =
+      loop-goes-on zero b e k = absurd (omega linear)
+      loop-goes-on (suc zero) b e k = absurd (omega linear)
+      loop-goes-on {σ₁} (suc (suc m)) b e k =
           let less : suc (suc m) - 1 - 1 ≡ m = omega linear in
           passes σ h ∙ while-again (meaning t) p _ σ (c - 1 - 1) m b (sym (e .is)) ∙ sym (loops m σ₁) ∙ ap (λ f. exec (meaning t) (stmOf (treeAt t n)) f σ₁) (sym less)
