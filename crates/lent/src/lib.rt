@@ -1,4 +1,4 @@
-// How a run reads the table and the code that it is lent, and keeps the store. These are for the runs alone, and ask (`requires`) what a run has checked:
+// How a run reads the table and the code that it is lent, and keeps the store. They are parts of the runs and of the check of code, and ask (`requires`) what those know:
 // a caller has to prove it.
 use rules::WIDTH;
 ghost use mathlib.Core.Path.{_≡_};

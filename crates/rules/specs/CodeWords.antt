@@ -61,6 +61,7 @@ unfoldable pub rises : List ℕ → ℕ → Bool
 rises c zero = true
 rises c (suc k) = ltb (part c k 0) (part c (suc k) 0)
 
+-- and all together: each label is above every label before it
 abbrev pub Rising : List ℕ → Type 0
 Rising c = (j k : ℕ) → j < k → k < instructions c → part c j 0 < part c k 0
 
