@@ -9,8 +9,8 @@ use Rattle.table.specs.Checking.{checking}
 use Rattle.compiler.specs.Compiling.{compiling}
 use Rattle.source.specs.SourceRun.{sourceRun}
 use Rattle.code.specs.CodeRun.{codeRun}
-use Rattle.text.specs.Reading.{reading}
-use Rattle.text.specs.Writing.{writing}
+use Rattle.reading.specs.Reading.{reading}
+use Rattle.writing.specs.Writing.{writing}
 
 -- the table check lends nothing to be altered
 unfoldable pub checkCall : List ℕ → List ℕ

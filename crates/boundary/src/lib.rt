@@ -121,7 +121,7 @@ pub extern "C" fn rill_run_code(
 pub extern "C" fn rill_read_text(text: &[u8], room: &mut [u32], answer: &mut [u32; 8])
     ensures { λ _. ⌜ ended (now (answer .exit)) (now (room .exit)) ≡ readCall (now (text .entry)) (now (room .entry)) ⌝ }
 {
-    let read = text::read_text(text, room);
+    let read = reading::read_text(text, room);
     tell_text(read, answer);
 }
 
@@ -129,6 +129,6 @@ pub extern "C" fn rill_read_text(text: &[u8], room: &mut [u32], answer: &mut [u3
 pub extern "C" fn rill_write_text(words: &[u32], room: &mut [u8], answer: &mut [u32; 8])
     ensures { λ _. ⌜ ended (now (answer .exit)) (now (room .exit)) ≡ writeCall (now (words .entry)) (now (room .entry)) ⌝ }
 {
-    let written = text::write_text(words, room);
+    let written = writing::write_text(words, room);
     tell_text(written, answer);
 }

@@ -23,10 +23,10 @@ use Rattle.rules.proofs.CodeLaws.{length-words}
 use Rattle.rules.proofs.CompilationLaws.{length-compile}
 use Rattle.compiler.specs.Compiling.{compileRefusal, made, done, compiling}
 use Rattle.compiler.proofs.Promise.{done-unrefused, refused-exactly}
-use Rattle.text.specs.Reading.{reading}
-use Rattle.text.specs.Writing.{writing}
-use Rattle.text.proofs.Endings.{write-done}
-use Rattle.text.proofs.RoundTrips.{has-read}
+use Rattle.reading.specs.Reading.{reading}
+use Rattle.writing.specs.Writing.{writing}
+use Rattle.writing.proofs.Endings.{write-done}
+use Rattle.reading.proofs.HasRead.{has-read}
 use Rattle.lister.specs.Listing.{refusalLine, lineOr, listingOf, listing, Listed}
 use Rattle.lister.proofs.Rooms.{compiling-room}
 

@@ -17,7 +17,7 @@ fn refused(r: Refusal, out: &mut [u8; 33792]) -> usize
     ensures { λ n. ⌜ Listed (refusalLine r) (now (out .entry)) (now (out .exit)) n ⌝ }
 {
     let pair = [r.number, r.place];
-    text::write_pairs(&pair, out);
+    writing::write_pairs(&pair, out);
     17
 }
 
@@ -27,7 +27,7 @@ fn list_code(code: &[u32], instructions: u32, out: &mut [u8; 33792]) -> usize
     ensures { λ n. ⌜ Listed (textOf width (take (width * instructions) (now (code .entry)))) (now (out .entry)) (now (out .exit)) n ⌝ }
 {
     let words = WIDTH * (instructions as usize);
-    text::write_text(&code[0..words], out);
+    writing::write_text(&code[0..words], out);
     LINE * (instructions as usize)
 }
 
@@ -50,7 +50,7 @@ pub fn list(input: &[u8], out: &mut [u8; 33792]) -> usize
     ensures { λ r. ⌜ Listed (listing (now (input .entry))) (now (out .entry)) (now (out .exit)) r ⌝ }
 {
     let mut words = [0u32; 4096];
-    let read = text::read_text(input, &mut words);
+    let read = reading::read_text(input, &mut words);
     match read {
         Text::Refused(r) => refused(r, out),
         Text::Done(n) => list_table(&words, n, out),

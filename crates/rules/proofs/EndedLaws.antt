@@ -5,7 +5,8 @@ use mathlib.Core.List.{List}
 use mathlib.Core.Option.{Option, none, some}
 use Prim.Native.Nat.{ℕ}
 use native.Mathlib.Omega.{arith}
-use Rattle.rules.specs.Answer.{Ended, ended, unlessRefused}
+use lib.Seq.{sets}
+use Rattle.rules.specs.Answer.{Ended, ended, unlessRefused, done}
 use Rattle.rules.specs.declared.Refusal.{Refusal}
 use Rattle.rules.specs.declared.Compiled.{Compiled}
 use Rattle.rules.specs.declared.Text.{Text}
@@ -70,3 +71,12 @@ module _ {Answer Word : Type 0} {refusal : Refusal → Answer} (c : Carries refu
   unfolding unlessRefused
   was-refused (some q) lent end {r} plain e = (sym (c .reads q) ∙ ap (c .carried) (sym (answer-is e)) ∙ c .reads r, after-is e)
   was-refused none lent end {r} plain e = absurd (never (sym (c .reads r) ∙ ap (c .carried) (answer-is e) ∙ plain))
+
+-- what an answer on text that is done says
+pub text-done : (o : Option Refusal) (amount n : ℕ) (room written after : List ℕ)
+    → ended (Text.Done n) after ≡ unlessRefused Text.Refused o room (done amount room written)
+    → (o ≡ none) × (n ≡ amount) × (after ≡ sets room 0 written)
+text-done o amount n room written after e =
+    let is = was-unrefused text-carries o room (done amount room written) refl e in
+    let answers : Text.Done n ≡ Text.Done amount = answer-is (is .1) in
+    (is .0, cc, after-is (is .1))

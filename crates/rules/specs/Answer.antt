@@ -3,6 +3,7 @@
 use Prim.Native.Nat.{ℕ}
 use mathlib.Core.List.{List, [], _∷_}
 use mathlib.Core.Option.{Option, none, some}
+use lib.Seq.{sets}
 use Rattle.rules.specs.declared.Refusal.{Refusal}
 use Rattle.rules.specs.declared.Checked.{Checked}
 use Rattle.rules.specs.declared.SourceRun.{SourceRun}
@@ -54,3 +55,7 @@ ended answer after = record { answer = answer; after = after }
 unfoldable pub unlessRefused : {Answer Word : Type 0} → (Refusal → Answer) → Option Refusal → List Word → Ended Answer Word → Ended Answer Word
 unlessRefused refusal (some r) lent end = ended (refusal r) lent
 unlessRefused refusal none lent end = end
+
+-- a call on text that is not refused: "success alters only the words or bytes it writes, from the front of the room on"
+abbrev pub done : ℕ → List ℕ → List ℕ → Ended Text ℕ
+done amount room written = ended (Text.Done amount) (sets room 0 written)

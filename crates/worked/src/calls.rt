@@ -61,7 +61,7 @@ fn own_code(table: &[u32], given: Given) {
 // Reads to the first n words of a room, each aaaaaaaa before the call.
 fn read(text: &[u8], n: usize) {
     let mut words = [0xaaaaaaaa; 4100];
-    show::text(text::read_text(text, parts::word_room(&mut words, n)));
+    show::text(reading::read_text(text, parts::word_room(&mut words, n)));
     show::words(&words, n);
 }
 
@@ -73,14 +73,14 @@ fn read_front(lines: &[u8; 33825], n: usize) {
 fn read_zeros(n: usize) {
     let mut lines = [b'0'; 33825];
     lines[33824] = b'\n';
-    text::write_text(&[0; 4096], &mut lines);
+    writing::write_text(&[0; 4096], &mut lines);
     read_front(&lines, n);
 }
 
 // Writes to the first n bytes of a room, each a point before the call.
 fn write(words: &[u32], n: usize) {
     let mut bytes = [b'.'; 33792];
-    show::text(text::write_text(words, parts::byte_room(&mut bytes, n)));
+    show::text(writing::write_text(words, parts::byte_room(&mut bytes, n)));
     show::bytes(&bytes, n);
 }
 

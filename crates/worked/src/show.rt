@@ -82,7 +82,7 @@ fn value(name: &[u8], v: i32) {
 pub(crate) fn words(room: &[u32; 4100], n: usize) {
     if n <= 8 {
         let mut lines = [0u8; 66];
-        text::write_text(parts::words(room, 0, 8), &mut lines);
+        writing::write_text(parts::words(room, 0, 8), &mut lines);
         say(&lines);
     }
 }

@@ -1,3 +1,0 @@
--- What the crate's private functions tell each other. A caller need not read it.
-pub mod Reading
-pub mod Writing

@@ -1,0 +1,2 @@
+-- What the crate's private functions tell each other. A caller need not read it.
+pub mod Parts
