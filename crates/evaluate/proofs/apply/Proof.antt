@@ -1,4 +1,4 @@
--- `run::evaluate::apply` meets its contract: each kind is its operator.
+-- `apply` meets its contract: each kind is its operator.
 use mathlib.Core.Path.{_≡_, refl, sym, ap, _∙_}
 use Prim.Native.Nat.{ℕ, _<_}
 use native.Mathlib.Omega.{arith}

@@ -1,4 +1,4 @@
--- `run::evaluate::compare` meets its contract: each kind is its relation. Two values are equal where their bits are.
+-- `compare` meets its contract: each kind is its relation. Two values are equal where their bits are.
 use mathlib.Core.Path.{_≡_, sym, ap, ap₂, _∙_}
 use mathlib.Core.Bool.{Bool}
 use Prim.Native.Nat.{ℕ}

@@ -1,4 +1,4 @@
--- `run::evaluate::leaf` meets its contract: a number is its word's value, a variable what the store has.
+-- `leaf` meets its contract: a number is its word's value, a variable what the store has.
 use mathlib.Core.Path.{_≡_, sym, ap, _∙_}
 use Prim.Native.Nat.{_<_, _≤_}
 use native.Mathlib.Omega.{arith}

@@ -1,4 +1,4 @@
--- `run::evaluate::leaves` meets its contract: past the test both operands are leaves, and are read.
+-- `leaves` meets its contract: past the test both operands are leaves, and are read.
 use mathlib.Core.Path.{_≡_}
 use Prim.Native.Nat.{ℕ, _≤_}
 use native.Mathlib.Omega.{arith}

@@ -1,4 +1,4 @@
--- `run::evaluate::truth_of` meets its contract: what it works out itself is a comparison of two leaves.
+-- `truth_of` meets its contract: what it works out itself is a comparison of two leaves.
 use mathlib.Core.Path.{refl, sym, ap₂, _∙_}
 use Prim.Native.Nat.{_≤_}
 use lib.Dec.{lit<}

@@ -1,4 +1,4 @@
--- `run::evaluate::value_of` meets its contract: what it works out itself is a leaf, or an operation on two leaves.
+-- `value_of` meets its contract: what it works out itself is a leaf, or an operation on two leaves.
 use mathlib.Core.Path.{refl, sym, ap₂, _∙_}
 use Prim.Native.Nat.{_≤_}
 use native.Mathlib.Omega.{arith}
