@@ -2,7 +2,7 @@
  * (rt staticlib boundary; x86-64 Linux). C99 or later, C++ too.
  *
  * Every call ends, checks its input itself, and writes all eight words of `answer`. A refusal alters nothing else;
- * success alters only the words or bytes that it writes, from the front of `room` on, and a run only the store. No call
+ * success alters only the words or bytes that it writes, from the front of `room` on, and a run its stores. No call
  * allocates, keeps a pointer, or uses anything global: calls from several threads need only buffers of their own.
  *
  * A pointer is given with its length in elements (words, values or bytes, as its type says). No pointer may be NULL, also
@@ -45,14 +45,23 @@ enum {
 
 /* The verdicts. */
 enum {
-    RILL_DONE = 0,        /* check, compilation, text: accepted, made, read or written */
+    RILL_DONE = 0,        /* check, compilation, depot, text: accepted, made, all run, read or written */
     RILL_FINISHED = 1,    /* a run came to its end within the fuel */
     RILL_OUT_OF_FUEL = 2, /* a run spent all its fuel before its end */
     RILL_REFUSED = 3      /* the input is against the rules: number and place say where */
 };
 
-/* A store has this many values: the variables v0 to v31. */
-enum { RILL_VARIABLES = 32 };
+/* A store has this many values: the variables v0 to v31. A depot has at most this many stores. */
+enum { RILL_VARIABLES = 32, RILL_CREWS = 512 };
+
+/* The words of a crew in the room of a depot. */
+enum {
+    RILL_CREW_VERDICT = 0, /* one of the two below, which are not numbered as an answer's verdicts are */
+    RILL_CREW_LABEL = 1,   /* the label its run stands at */
+    RILL_CREW_STEPS = 2,   /* the steps of its run */
+    RILL_CREW_WORDS = 3    /* how many there are */
+};
+enum { RILL_CREW_FINISHED = 0, RILL_CREW_OUT_OF_FUEL = 1 };
 
 /* Refusals, with their places. Every call that takes a table may give 1 to 9; which others, is said at each call.
  * Numbers 2 to 6 go node by node from 0, the lowest number at a node first; otherwise the lowest number wins.
@@ -65,7 +74,8 @@ enum { RILL_VARIABLES = 32 };
  *    7  root not a statement                                                     root
  *    8  a node other than the root not a child exactly once                      the lowest such node
  *    9  depth over 256                                                           0
- *   10  store not 32 values                                                      0
+ *   10  store not 32 values; in a depot, stores not a multiple of 32 values, or
+ *       over 16,384                                                              0
  *   11  start label over 65,535; in compiling, also end label over 65,535        0
  *   12  room under four words an instruction                                     0
  *   13  code: words not a multiple of 4 or over 4,096 (place 0); else a bad field, a
@@ -73,6 +83,7 @@ enum { RILL_VARIABLES = 32 };
  *   14  text: a line not 32 digits and newline, or a 1,025th line                the first such line, from 0
  *       in writing: words not a multiple of 4, or over 4,096                     the lesser of 1,024 and the whole frames
  *   15  room too small for the words or bytes                                    0
+ *   16  depot: room under three words a crew                                     0
  */
 
 /* Checks a table. Done, or refused 1 to 9. Writes nothing but the answer. */
@@ -96,6 +107,14 @@ void rill_run_source(const uint32_t *table, size_t table_words, int32_t *store, 
  * Finished or out of fuel: LABEL is where it stands, AMOUNT the steps. Refused 1 to 11, 13. */
 void rill_run_code(const uint32_t *table, size_t table_words, const uint32_t *code, size_t code_words, uint32_t start,
                    int32_t *store, size_t store_values, uint32_t fuel, uint32_t answer[8]);
+
+/* Runs jump code for every crew of a depot, as rill_run_code would one by one: crew i has the 32 values of stores from 32 * i
+ * on, and each run begins at the start label with the whole fuel. Table and code are checked once for all. There may be no
+ * crews. The three words of crew i stand in room from 3 * i on; what lies behind the last crew's is not touched.
+ * Done. Refused 1 to 11, 13, 16. */
+void rill_run_depot(const uint32_t *table, size_t table_words, const uint32_t *code, size_t code_words, uint32_t start,
+                    int32_t *stores, size_t stores_values, uint32_t fuel, uint32_t *room, size_t room_words,
+                    uint32_t answer[8]);
 
 /* Reads text of a table or of code into the front of room: each line is four words of eight lower-case hexadecimal digits,
  * then a newline (byte 10), the last line too. Empty text is no words.

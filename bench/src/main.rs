@@ -1,6 +1,7 @@
-//! Prints, as markdown, what a step or a call costs: ours beside plain Rust (the oracle of tests/outside), and Lua.
+//! Prints, as markdown, what a step, a crew or a call costs: ours beside plain Rust (the oracle of tests/outside), and Lua.
 
 mod calls;
+mod depots;
 mod lua;
 mod measure;
 mod once;
@@ -21,13 +22,14 @@ fn main() {
     println!(
         "- buffers were filled once before the first call, so that their pages are in memory, and not cleared again"
     );
-    println!("- the store was set before each run, outside the timing");
-    println!("- the time of a run includes the check of its table and code");
+    println!("- the store was set before each run, and all stores before each depot, outside the timing");
+    println!("- the time of a run or a depot includes the check of its table and code");
     if !lua::installed() {
         println!("- Lua 5.4: not installed");
     }
     runs::programs(&ours);
     runs::code_lengths(&ours);
     runs::largest_step(&ours);
+    depots::depots(&ours);
     calls::calls(&ours);
 }

@@ -5,7 +5,8 @@ use std::time::{Duration, Instant};
 /// Many short rounds: on a busy machine some of them run undisturbed.
 const ROUNDS: usize = 60;
 
-pub const METHOD: &str = "each time is the least of 60 rounds; the two take turns, in one process, on the same inputs";
+pub const METHOD: &str =
+    "each time is the least of 60 rounds; those of a row take turns, in one process, on the same inputs";
 
 /// Nanoseconds, each for one step or one call.
 #[derive(Clone, Copy)]
@@ -19,15 +20,20 @@ pub fn columns(pair: Pair) -> String {
     format!("{:.2} | {:.2} | {:.2}", pair.ours, pair.plain, pair.ours / pair.plain)
 }
 
-/// The least time of each over several rounds, divided by the `count` of steps or calls in one round.
 pub fn side_by_side(count: u64, mut ours: impl FnMut() -> Duration, mut plain: impl FnMut() -> Duration) -> Pair {
-    let mut least = [Duration::MAX; 2];
+    let [ours, plain] = in_turn(count, [&mut ours, &mut plain]);
+    Pair { ours, plain }
+}
+
+/// The least time of each over several rounds, divided by the `count` of steps, calls or crews in one round.
+pub fn in_turn<const N: usize>(count: u64, mut works: [&mut dyn FnMut() -> Duration; N]) -> [f64; N] {
+    let mut least = [Duration::MAX; N];
     for _ in 0..ROUNDS {
-        least[0] = least[0].min(ours());
-        least[1] = least[1].min(plain());
+        for (work, least) in works.iter_mut().zip(&mut least) {
+            *least = work().min(*least);
+        }
     }
-    let each = least.map(|time| time.as_nanos() as f64 / count as f64);
-    Pair { ours: each[0], plain: each[1] }
+    least.map(|time| time.as_nanos() as f64 / count as f64)
 }
 
 pub fn timed<T>(work: impl FnOnce() -> T) -> (Duration, T) {

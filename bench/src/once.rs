@@ -1,17 +1,18 @@
 //! One call and nothing else, for a tool that counts instructions: `bench ours a-code`, `bench plain read`.
-//! It prints what the count is to be divided by: the steps of a run, or 1.
+//! It prints what the count is to be divided by: the steps of a run, the crews of a depot, or 1.
 
 use crate::ours::Ours;
 use crate::runs::first_store;
-use crate::workloads::{programs, table_of_1000_nodes};
+use crate::workloads::{depots, programs, table_of_1000_nodes, CREWS};
 use outside::oracle;
-use outside::oracle::answer::Answer;
+use outside::oracle::answer::{Answer, REFUSED};
 use std::hint::black_box;
 
 pub fn once(ours: &Ours, side: &str, row: &str) {
     assert!(side == "ours" || side == "plain", "the side is ours or plain");
     let ours = (side == "ours").then_some(ours);
     match row.split_once('-') {
+        Some(("depot", row)) => println!("{}", depot(ours, row)),
         Some((program, engine)) => println!("{}", run(ours, program, engine)[4]),
         None => {
             call(ours, row);
@@ -39,6 +40,35 @@ fn run(ours: Option<&Ours>, program: &str, engine: &str) -> Answer {
     }
 }
 
+/// Crews alike, with little fuel: `a` is all of them in one call, `a-none` the same call with no crews, of which the checks
+/// are left, and `a-alone` one crew by a code run.
+fn depot(ours: Option<&Ours>, row: &str) -> usize {
+    let (program, crews) = row.split_once('-').unwrap_or((row, "all"));
+    let [a, _, b, _] = depots();
+    let depot = match program {
+        "a" => a,
+        "b" => b,
+        _ => panic!("the depot is a or b"),
+    };
+    let (table, code, fuel) = (&depot.program.table, &depot.program.code, depot.fuel);
+    let (mut stores, mut room) = (depot.stores(1), vec![1; 3 * CREWS]);
+    let answer = match (ours, crews) {
+        (Some(ours), "all") => counted(|| ours.run_depot(table, code, 1, &mut stores, fuel, &mut room)),
+        (Some(ours), "none") => counted(|| ours.run_depot(table, code, 1, &mut [], fuel, &mut [])),
+        (Some(ours), "alone") => counted(|| ours.run_code(table, code, 1, &mut stores[..32], fuel)),
+        (None, "all") => counted(|| oracle::run_depot(table, code, 1, &mut stores, fuel, &mut room)),
+        (None, "none") => counted(|| oracle::run_depot(table, code, 1, &mut [], fuel, &mut [])),
+        (None, "alone") => counted(|| oracle::run_code(table, code, 1, &mut stores[..32], fuel)),
+        _ => panic!("a depot's crews are none or alone, or all where nothing is said"),
+    };
+    assert_ne!(answer[0], REFUSED);
+    if crews == "all" {
+        CREWS
+    } else {
+        1
+    }
+}
+
 fn call(ours: Option<&Ours>, row: &str) -> Answer {
     let table = table_of_1000_nodes();
     let mut text = vec![1; 33 * 1000];
@@ -53,6 +83,6 @@ fn call(ours: Option<&Ours>, row: &str) -> Answer {
         (None, "compile") => counted(|| oracle::compile(&table, 1, &mut words)),
         (None, "read") => counted(|| oracle::read_text(&text, &mut words)),
         (None, "write") => counted(|| oracle::write_text(&table, &mut bytes)),
-        _ => panic!("the row is a run, as a-code, or check, compile, read or write"),
+        _ => panic!("the row is a run, as a-code, a depot, as depot-a, or check, compile, read or write"),
     }
 }

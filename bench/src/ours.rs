@@ -36,6 +36,24 @@ impl Ours {
         })
     }
 
+    pub fn run_depot(
+        &self,
+        table: &[u32],
+        code: &[u32],
+        start: u32,
+        stores: &mut [i32],
+        fuel: u32,
+        room: &mut [u32],
+    ) -> Answer {
+        let (words, len) = (table.as_ptr(), table.len());
+        let (frames, frames_len) = (code.as_ptr(), code.len());
+        let (values, count) = (stores.as_mut_ptr(), stores.len());
+        let (rows, rows_len) = (room.as_mut_ptr(), room.len());
+        answered(|answer| unsafe {
+            (self.calls.run_depot)(words, len, frames, frames_len, start, values, count, fuel, rows, rows_len, answer)
+        })
+    }
+
     pub fn read_text(&self, text: &[u8], room: &mut [u32]) -> Answer {
         answered(|answer| unsafe {
             (self.calls.read_text)(text.as_ptr(), text.len(), room.as_mut_ptr(), room.len(), answer)

@@ -1,4 +1,4 @@
-//! What is run: three programs, hand-written code, and the inputs for checking, compiling and text.
+//! What is run: three programs, hand-written code, depots of them, and the inputs for checking, compiling and text.
 
 use outside::oracle;
 use outside::trees::*;
@@ -18,11 +18,51 @@ pub struct Program {
 
 pub fn programs() -> Vec<Program> {
     vec![
-        compiled("the loop of document 01", loop_program(), 1_500_000, "loop.lua"),
-        compiled("choose, quotient and remainder", expressions(), 10_000, "expressions.lua"),
+        the_loop(1_500_000),
+        choosing(10_000),
         compiled("a dozen ifs with empty branches", empty_branches(), 4_000, "ifs.lua"),
         gaps(),
     ]
+}
+
+fn the_loop(from: i32) -> Program {
+    compiled("the loop of document 01", loop_program(), from, "loop.lua")
+}
+
+fn choosing(from: i32) -> Program {
+    compiled("choose, quotient and remainder", expressions(), from, "expressions.lua")
+}
+
+/// A full depot.
+pub const CREWS: usize = oracle::depot::MOST_CREWS;
+
+/// Crews under one program.
+pub struct Depot {
+    pub program: Program,
+    /// Each crew spends all of it: some finish with it, others are out of fuel.
+    pub fuel: u32,
+}
+
+/// Each program with little fuel, where the checks weigh most, and with more.
+pub fn depots() -> [Depot; 4] {
+    [
+        Depot { program: the_loop(150), fuel: 13 },
+        Depot { program: the_loop(2_970), fuel: 201 },
+        Depot { program: choosing(3), fuel: 16 },
+        Depot { program: choosing(40), fuel: 201 },
+    ]
+}
+
+impl Depot {
+    /// The stores of all crews, back to back. v0 begins at one of `apart` numbers, from the program's own on: with 1 the crews
+    /// are alike.
+    pub fn stores(&self, apart: i32) -> Vec<i32> {
+        let mut stores = vec![0; 32 * CREWS];
+        for (crew, store) in stores.chunks_exact_mut(32).enumerate() {
+            store[0] = self.program.from + crew as i32 % apart;
+        }
+        stores
+    }
 }
 
 fn compiled(name: &'static str, tree: Tree, from: i32, lua: &'static str) -> Program {

@@ -1,4 +1,4 @@
-/* The six calls from C: the listing rule of document 01 and its documented answers, other worked runs, each verdict, and what a
+/* The seven calls from C: the listing rule of document 01 and its documented answers, other worked runs, each verdict, and what a
  * refusal and a success leave alone. Every answer and every buffer is compared whole. */
 #include <stdio.h>
 #include <string.h>
@@ -28,6 +28,7 @@ static uint32_t answer[RILL_WORDS];
 static uint32_t room[64];
 static uint8_t bytes[512];
 static int32_t store[33];
+static int32_t stores[RILL_CREWS * RILL_VARIABLES + 1];
 
 static void expect(const char *what, int holds)
 {
@@ -181,6 +182,62 @@ static void running_code(void)
     tells("code: 31 values", RILL_REFUSED, 10, 0, 0, 0);
 }
 
+/* v0 of each crew as given, all other values 0 */
+static void fresh_stores(const int32_t *v0, size_t crews)
+{
+    size_t i;
+    memset(stores, 0, sizeof stores);
+    for (i = 0; i < crews; i++) stores[RILL_VARIABLES * i] = v0[i];
+}
+
+/* v0 and v1 of each crew as given, all other values 0 */
+static void stores_hold(const char *what, const int32_t *v0, const int32_t *v1, size_t crews)
+{
+    static int32_t all[RILL_CREWS * RILL_VARIABLES + 1];
+    size_t i;
+    memset(all, 0, sizeof all);
+    for (i = 0; i < crews; i++) {
+        all[RILL_VARIABLES * i] = v0[i];
+        all[RILL_VARIABLES * i + 1] = v1[i];
+    }
+    expect(what, memcmp(stores, all, sizeof all) == 0);
+}
+
+/* crews of 150, 0 and 30 minutes: the first is out of fuel 12, the others finish */
+static void running_depots(void)
+{
+    const int32_t minutes[3] = { 150, 0, 30 }, left[3] = { -30, 0, -30 }, hours[3] = { 3, 0, 1 }, none[3] = { 0 };
+    const uint32_t told[9] = { RILL_CREW_OUT_OF_FUEL, 1, 12, RILL_CREW_FINISHED, 5, 1, RILL_CREW_FINISHED, 5, 5 };
+    uint32_t falling[16];
+    memcpy(falling, listing_code, sizeof falling);
+    falling[8] = 2;
+
+    stale(); fresh_stores(minutes, 3); rill_run_depot(listing, 52, listing_code, 16, 1, stores, 96, 12, room, 64, answer);
+    tells("depot: three crews", RILL_DONE, 0, 0, 0, 0);
+    room_holds("depot: their words", told, 9);
+    stores_hold("depot: their stores", left, hours, 3);
+    stale(); fresh_stores(minutes, 3); rill_run_depot(listing, 52, listing_code, 16, 1, stores, 96, 12, room, 9, answer);
+    tells("depot: exact room", RILL_DONE, 0, 0, 0, 0);
+    stale(); fresh_stores(minutes, 3); rill_run_depot(listing, 52, listing_code, 16, 1, stores, 96, 12, room, 8, answer);
+    tells("depot: room too small", RILL_REFUSED, 16, 0, 0, 0);
+    room_holds("depot: refused, room as it was", room, 0);
+    stores_hold("depot: refused, stores as they were", minutes, none, 3);
+    stale(); fresh_stores(minutes, 3); rill_run_depot(listing, 52, listing_code, 16, 1, stores, 97, 12, room, 64, answer);
+    tells("depot: 97 values", RILL_REFUSED, 10, 0, 0, 0);
+    stale(); rill_run_depot(listing, 52, listing_code, 16, 1, stores, 513 * 32, 12, room, 64, answer);
+    tells("depot: 513 crews", RILL_REFUSED, 10, 0, 0, 0);
+    stale(); rill_run_depot(listing, 52, listing_code, 16, 1, stores, 512 * 32, 12, room, 64, answer);
+    tells("depot: 512 crews, room for 21", RILL_REFUSED, 16, 0, 0, 0);
+    stale(); rill_run_depot(listing, 52, listing_code, 16, 1, stores, 0, 12, room, 0, answer);
+    tells("depot: no crews", RILL_DONE, 0, 0, 0, 0);
+    stale(); rill_run_depot(listing, 52, falling, 16, 1, stores, 0, 12, room, 0, answer);
+    tells("depot: no crews, a label that does not rise", RILL_REFUSED, 13, 2, 0, 0);
+    stale(); rill_run_depot(listing, 52, falling, 16, 65536, stores, 96, 12, room, 8, answer);
+    tells("depot: start label over", RILL_REFUSED, 11, 0, 0, 0);
+    stale(); rill_run_depot(listing, 40, falling, 16, 65536, stores, 97, 12, room, 8, answer);
+    tells("depot: root not a statement", RILL_REFUSED, 7, 9, 0, 0);
+}
+
 static void text(void)
 {
     char upper[67];
@@ -218,6 +275,7 @@ int main(void)
     compiling();
     running_source();
     running_code();
+    running_depots();
     header_example();
     text();
     printf("%u passed, %u failed\n", passed, failed);

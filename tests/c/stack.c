@@ -14,7 +14,7 @@ static uint32_t table[4 * NODES + 4], code[4 * NODES], words[4 * NODES];
 static size_t table_words, code_words;
 static uint8_t text[33 * NODES];
 static size_t text_bytes;
-static int32_t store[32];
+static int32_t store[32], stores[2 * 32];
 static uint32_t answer[8];
 
 static uint32_t node(uint32_t kind, uint32_t p, uint32_t q, uint32_t r) {
@@ -77,6 +77,7 @@ static void compile(void) {
 }
 static void run_source(void) { rill_run_source(table, table_words, store, 32, 1000, answer); }
 static void run_code(void) { rill_run_code(table, table_words, code, code_words, 1, store, 32, 1000, answer); }
+static void run_depot(void) { rill_run_depot(table, table_words, code, code_words, 1, stores, 2 * 32, 1000, words, 6, answer); }
 static void write_text(void) {
     rill_write_text(table, table_words, text, sizeof text, answer);
     text_bytes = answer[4];
@@ -107,12 +108,10 @@ static void measure(const char *name) {
     static const struct {
         const char *name;
         void (*f)(void);
-    } calls[] = {{"rill_check", check},         {"rill_compile", compile},       {"rill_run_source", run_source},
-                 {"rill_run_code", run_code},   {"rill_write_text", write_text}, {"rill_read_text", read_text}};
+    } calls[] = {{"rill_check", check},         {"rill_compile", compile},       {"rill_run_source", run_source}, {"rill_run_code", run_code},
+                 {"rill_run_depot", run_depot}, {"rill_write_text", write_text}, {"rill_read_text", read_text}};
     size_t base = depth_of(nothing);
     for (size_t i = 0; i < sizeof calls / sizeof *calls; i++) {
-        code_words = i == 3 ? code_words : 0;
-        if (i == 3) compile();
         size_t deep = depth_of(calls[i].f);
         printf("%-16s %-40s %6zu bytes, verdict %u number %u\n", calls[i].name, name, deep > base ? deep - base : 0, answer[0], answer[1]);
     }

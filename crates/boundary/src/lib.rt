@@ -1,7 +1,8 @@
 // The C boundary: each public function under a plain name, its answer told in eight words. include/rillgiggle.h has the calls for C.
 ghost use mathlib.Core.Path.{_≡_};
 ghost use Rattle.rules.specs.Answer.{eight, ended, refused, checkedWords, compiledWords, sourceRunWords, codeRunWords, textWords};
-ghost use Rattle.boundary.specs.Calls.{checkCall, compileCall, sourceCall, codeCall, readCall, writeCall};
+ghost use Rattle.depot.specs.Depot.{lent};
+ghost use Rattle.boundary.specs.Calls.{checkCall, compileCall, sourceCall, codeCall, depotCall, readCall, writeCall};
 use rules::Checked;
 use rules::CodeRun;
 use rules::Compiled;
@@ -115,6 +116,23 @@ pub extern "C" fn rill_run_code(
 {
     let run = code::run_code(table, code, start, store, fuel);
     tell_code_run(run, answer);
+}
+
+#[no_mangle]
+pub extern "C" fn rill_run_depot(
+    table: &[u32],
+    code: &[u32],
+    start: u32,
+    stores: &mut [i32],
+    fuel: u32,
+    room: &mut [u32],
+    answer: &mut [u32; 8],
+)
+    ensures { λ _. ⌜ ended (now (answer .exit)) (lent (now (stores .exit)) (now (room .exit)))
+        ≡ depotCall (now (table .entry)) (now (code .entry)) start (now (stores .entry)) fuel (now (room .entry)) ⌝ }
+{
+    let ran = depot::run_depot(table, code, start, stores, fuel, room);
+    tell_checked(ran, answer);
 }
 
 #[no_mangle]

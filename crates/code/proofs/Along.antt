@@ -5,7 +5,6 @@ use mathlib.Core.List.{List}
 use mathlib.Core.Option.{some}
 use Prim.Native.Nat.{ℕ, suc, _+_, _-_, _<_, _≤_}
 use native.Mathlib.Omega.{arith}
-use lib.IntN.{ℤ}
 use lib.ListN.{length}
 use Rattle.rules.specs.Lists.{fetch}
 use Rattle.rules.specs.Expression.{Store}
@@ -18,7 +17,8 @@ use Rattle.rules.specs.declared.CodeRun.{CodeRun}
 use Rattle.rules.specs.CodeWords.{Rising, instrAt}
 use Rattle.rules.proofs.FetchLaws.{code-facts, fetch-instr, fetch-nothing}
 use Rattle.rules.proofs.GotoLaws.{storeOf, run-length, next-length, run-step, run-out, run-finished}
-use Rattle.code.specs.CodeRun.{codeEnd}
+use Rattle.rules.proofs.EndedLaws.{either-end}
+use Rattle.code.specs.CodeRun.{codeRunRefusal, codeEnd, codeRun}
 use Rattle.code.specs.inside.Running.{Place, Admitted, Stands, Stepped}
 
 pub record Along (t c : List ℕ) (start : ℕ) (σ₀ : Store) (fuel ℓ place steps : ℕ) (σ : Store) : Type 0 where
@@ -80,4 +80,12 @@ end-length n (finished ℓ σ left) = refl
 end-length n (out ℓ σ) = refl
 
 pub left-length : (M : Meaning) (c : Code) (n ℓ : ℕ) (σ : Store) {r : CodeRun} {σ′ : Store} → ended r σ′ ≡ codeEnd n (run M c n ℓ σ) → length σ′ ≡ length σ
-left-length M c n ℓ σ e = ap (λ (x : Ended CodeRun ℤ). length (x .after)) e ∙ end-length n (run M c n ℓ σ) ∙ run-length M c n ℓ σ
+left-length M c n ℓ σ e = ap (λ (x : Ended CodeRun Store). length (x .after)) e ∙ end-length n (run M c n ℓ σ) ∙ run-length M c n ℓ σ
+
+-- and so has the store that a call leaves, refused or not
+pub after-length : (t c : List ℕ) (start : ℕ) (σ : Store) (n : ℕ) → length (codeRun t c start σ n .after) ≡ length σ
+unfolding codeRun
+after-length t c start σ n =
+    let h = run (meaning t) (codeOf c) n start σ in
+    either-end CodeRun.Refused (codeRunRefusal t c start σ) σ (codeEnd n h) (λ end. length (end .after) ≡ length σ)
+    (λ r e. refl) (λ e. end-length n h ∙ run-length (meaning t) (codeOf c) n start σ)

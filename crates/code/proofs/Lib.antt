@@ -1,5 +1,5 @@
 -- What the proofs of several functions cite, and what the contract gives.
-pub mod Order
+pub mod Checks
 pub mod Places
 pub mod Steps
 pub mod Along

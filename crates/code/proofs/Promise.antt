@@ -1,4 +1,5 @@
--- What the contract of `run_code` gives: one answer with one store after it, and demand 2, for any answer that meets it. Assumes nothing.
+-- What the contracts of the two runs give: one answer with one store after it; and that of `run_code` demand 2, for any answer that meets it.
+-- Assumes nothing.
 use mathlib.Core.Path.{_≡_, refl, sym, ap, _∙_}
 use mathlib.Core.List.{List}
 use mathlib.Core.Option.{none}
@@ -21,7 +22,9 @@ use Rattle.rules.proofs.GotoLaws.{in-fetched, outside, run-out, run-finished, r
 use Rattle.rules.proofs.EndedLaws.{answer-is, after-is, one-end, ends-unrefused, either-end}
 use Rattle.code.specs.CodeRun.{codeRunRefusal, codeEnd, codeRun}
 use Rattle.code.specs.CodeSays.{halt, CodeSays, refused, finished, out-of-fuel}
-use Rattle.code.proofs.Order.{admitted}
+use Rattle.code.proofs.Checks.{admitted}
+use Rattle.code.proofs.run_admitted.Kinds as behind
+use Rattle.code.proofs.run_admitted.Reads as behind-reads
 use Rattle.code.proofs.run_code.Kinds.{ps, r}
 use Rattle.code.proofs.run_code.Reads.{Post}
 
@@ -71,6 +74,11 @@ module _ (t c : List ℕ) (start : ℕ) (σ : Store) (fuel : ℕ) where
         let whole : fuel + 0 ≡ fuel = omega arith in
         let here = in-fetched C ℓ (d .0) (d .1) in
         runs ∙ ap (codeEnd fuel) (ap (λ (n : ℕ). run M C n start σ) (sym whole) ∙ run-steps M wf s 0 ∙ run-out M C ℓ τ (here .0) (here .1))
+
+-- the run behind its checks, which a depot makes for each of its crews
+pub run-admitted-determined : (κs : Lfts 3) (a : Dens κs behind.ps) (x y : CodeRun) (s t : AtExit (endedOf 3 behind.ps behind.r) κs)
+    → behind-reads.Post κs a x s → behind-reads.Post κs a y t → (x ≡ y) × (now (s .1 .1 .1 .0) ≡ now (t .1 .1 .1 .0))
+run-admitted-determined κs a x y s t p q = one-end p q
 
 module _ (κs : Lfts 3) (a : Dens κs ps) where
   pub run-code-determined : (x y : CodeRun) (s t : AtExit (endedOf 3 ps r) κs) → Post κs a x s → Post κs a y t

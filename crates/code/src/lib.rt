@@ -7,16 +7,13 @@ use lent::taken;
 use rules::Checked;
 use rules::CodeRun;
 use rules::Halt;
-use rules::Refusal;
 use rules::WIDTH;
 ghost use mathlib.Core.Path.{_≡_};
+ghost use mathlib.Core.Option.{none};
 ghost use Rattle.rules.specs.Answer.{ended};
-ghost use Rattle.rules.specs.declared.Checked.{Checked};
 ghost use Rattle.rules.specs.Goto.{run};
-ghost use Rattle.rules.specs.Refusal.{refusal};
 ghost use Rattle.rules.specs.Table.{meaning};
 ghost use Rattle.rules.specs.CodeWords.{codeOf};
-ghost use Rattle.table.specs.Checking.{answer};
 ghost use Rattle.code.specs.CodeRun.{codeRunRefusal, codeEnd, codeRun};
 ghost use Rattle.code.specs.inside.Running.{Admitted, Stands, Stepped};
 
@@ -66,48 +63,32 @@ fn run_from(t: &&[u32], c: &[u32], start: u32, store: &mut [i32; 32], fuel: u32)
     CodeRun::Finished(Halt { label, steps })
 }
 
-// The same on the lent store: taken at the start, put back at the end.
-fn run_lent(t: &[u32], c: &[u32], start: u32, store: &mut [i32], fuel: u32) -> CodeRun
-    requires { ⌜ Admitted (now t) (now c) (now store) ⌝ }
-    ensures { λ r. ⌜ ended r (now (store .exit)) ≡ codeEnd fuel (run (meaning (now (t .entry))) (codeOf (now (c .entry))) fuel start (now (store .entry))) ⌝ }
+// The code run behind its checks, on the lent store, which is taken at the start and put back at the end. It asks (`requires`) that the checks
+// refuse nothing: `run_code` makes them for one store, a depot once for all of its crews.
+pub fn run_admitted(
+    table: &[u32],
+    code: &[u32],
+    start: u32,
+    store: &mut [i32],
+    fuel: u32,
+) -> CodeRun
+    requires { ⌜ codeRunRefusal (now table) (now code) start (now store) ≡ none ⌝ }
+    ensures { λ r. ⌜ ended r (now (store .exit)) ≡ codeRun (now (table .entry)) (now (code .entry)) start (now (store .entry)) fuel ⌝ }
 {
-    let words = t;
+    let words = table;
     let mut values = taken(store);
-    let ran = run_from(&words, c, start, &mut values, fuel);
+    let ran = run_from(&words, code, start, &mut values, fuel);
     put_back(store, &values);
     ran
-}
-
-fn refused(number: u32) -> Checked
-    ensures { λ r. ⌜ r ≡ Checked.Refused (refusal number 0) ⌝ }
-{
-    Checked::Refused(Refusal { number, place: 0 })
-}
-
-// Refusals 1 to 11 and 13, in this order.
-fn admit(table: &[u32], code: &[u32], start: u32, store: &[i32]) -> Checked
-    ensures { λ r. ⌜ r ≡ answer (codeRunRefusal (now (table .entry)) (now (code .entry)) start (now (store .entry))) ⌝ }
-{
-    let checked = table::check(table);
-    if let Checked::Refused(r) = checked {
-        return Checked::Refused(r);
-    }
-    if store.len() != 32 {
-        return refused(10);
-    }
-    if 65535 < start {
-        return refused(11);
-    }
-    instructions::check_code(table, code)
 }
 
 // The steps of the code from the start label, on the store.
 pub fn run_code(table: &[u32], code: &[u32], start: u32, store: &mut [i32], fuel: u32) -> CodeRun
     ensures { λ r. ⌜ ended r (now (store .exit)) ≡ codeRun (now (table .entry)) (now (code .entry)) start (now (store .entry)) fuel ⌝ }
 {
-    let admitted = admit(table, code, start, store);
+    let admitted = instructions::admit(table, code, start, store.len() == 32);
     match admitted {
         Checked::Refused(r) => CodeRun::Refused(r),
-        Checked::Done => run_lent(table, code, start, store, fuel),
+        Checked::Done => run_admitted(table, code, start, store, fuel),
     }
 }

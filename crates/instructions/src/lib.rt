@@ -1,22 +1,23 @@
-// The check of jump code over a table: refusal 13.
+// The check of jump code over a table, and all that is checked before such code is run.
 use lent::part;
 use rules::Checked;
 use rules::Refusal;
 use rules::WIDTH;
 ghost use mathlib.Core.Path.{_≡_};
-ghost use mathlib.Core.Bool.{_&&_};
+ghost use mathlib.Core.Bool.{not, _&&_};
 ghost use Prim.Native.Nat.{_<_};
 ghost use lib.Dec.{eqb, ltb, leb};
 ghost use Rattle.rules.specs.declared.Checked.{Checked};
-ghost use Rattle.rules.specs.Refusal.{fine, refusal};
+ghost use Rattle.rules.specs.Refusal.{fine, refusal, refuse};
 ghost use Rattle.rules.specs.Table.{field, nodes};
 ghost use Rattle.rules.specs.CodeWords.{instructions, fieldsFit, rises as labelsRise, codeFault, codeRefusal};
 ghost use Rattle.table.specs.Checking.{answer};
+ghost use Rattle.instructions.specs.Admission.{admission};
 
-fn refused(place: u32) -> Checked
-    ensures { λ r. ⌜ r ≡ Checked.Refused (refusal 13 place) ⌝ }
+fn refused(number: u32, place: u32) -> Checked
+    ensures { λ r. ⌜ r ≡ Checked.Refused (refusal number place) ⌝ }
 {
-    Checked::Refused(Refusal { number: 13, place })
+    Checked::Refused(Refusal { number, place })
 }
 
 // Whether n is a node whose kind lies from low to high.
@@ -70,15 +71,32 @@ pub fn check_code(t: &[u32], c: &[u32]) -> Checked
     let words = c.len();
     let whole = (words % WIDTH == 0) & (words <= WIDTH * 1024);
     if !whole {
-        return refused(0);
+        return refused(13, 0);
     }
     let count = words / WIDTH;
     let mut k = 0;
     while k < count {
         if !obeys(t, c, k) {
-            return refused(k as u32);
+            return refused(13, k as u32);
         }
         k += 1;
     }
     Checked::Done
+}
+
+// Refusals 1 to 11 and 13, in this order. `fits` tells whether what is lent of stores has the length that the call asks for.
+pub fn admit(table: &[u32], code: &[u32], start: u32, fits: bool) -> Checked
+    ensures { λ r. ⌜ r ≡ answer (admission (now (table .entry)) (now (code .entry)) start (refuse (not fits) 10 0)) ⌝ }
+{
+    let checked = table::check(table);
+    if let Checked::Refused(r) = checked {
+        return Checked::Refused(r);
+    }
+    if !fits {
+        return refused(10, 0);
+    }
+    if 65535 < start {
+        return refused(11, 0);
+    }
+    check_code(table, code)
 }

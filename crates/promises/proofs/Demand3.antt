@@ -6,7 +6,6 @@ use mathlib.Core.List.{List}
 use Prim.Native.Nat.{ℕ, _+_, _-_, _≤_}
 use native.Mathlib.Omega.{arith}
 use lib.ListN.{length}
-use borrow.Author.Tests.{eq-eqb, le-ltb}
 use contract.Lifetimes.{Lfts}
 use denote.Ref.{now}
 use denote.Triple.Clauses.{AtExit}
@@ -16,9 +15,7 @@ use Rattle.rules.specs.While.{Evaluates, count, EvaluatesWithin, exec}
 use Rattle.rules.specs.Goto.{run}
 use Rattle.rules.specs.Compilation.{size, compile}
 use Rattle.rules.specs.Table.{meaning, program, Accepted}
-use Rattle.rules.specs.StoreRefusal.{storeRefusal}
 use Rattle.rules.specs.CodeWords.{codeOf}
-use Rattle.rules.specs.Refusal.{refuse, _orElse_}
 use Rattle.rules.specs.Answer.{ended, compiledWords, sourceRunWords, codeRunWords}
 use Rattle.rules.specs.declared.Made.{Made}
 use Rattle.rules.specs.declared.Compiled.{Compiled}
@@ -35,6 +32,7 @@ use Rattle.source.specs.SourceRun.{sourceEnd, sourceRun}
 use Rattle.source.proofs.Endings.{source-runs}
 use Rattle.code.specs.CodeRun.{codeRunRefusal, codeEnd, codeRun}
 use Rattle.code.specs.CodeSays.{halt}
+use Rattle.code.proofs.Checks.{not-refused}
 use Rattle.boundary.specs.Calls.{compileCall, sourceCall, codeCall}
 use Rattle.compiler.proofs.compile.Kinds as compile-kinds
 use Rattle.compiler.proofs.compile.Reads as compile-reads
@@ -115,9 +113,8 @@ module _ (t : List ℕ) (start : ℕ) (room after : List ℕ) (m : Made) (compil
   end-is = known (done-prescribed t start room m after compiled .compiles) .end
 
   no-refusal : codeRunRefusal t (written m after) start σ ≡ none
-  unfolding codeRunRefusal storeRefusal refuse _orElse_
   no-refusal =
-      rw (accepted, eq-eqb (length σ) 32 values, le-ltb 65535 start (omega (arith, done-unrefused t start room m after compiled .labels)))
+      not-refused t (written m after) start σ accepted values (omega (arith, done-unrefused t start room m after compiled .labels))
       (done-prescribed t start room m after compiled .accepted)
 
   code-ends : ended r σ′ ≡ codeEnd n (run (meaning t) (compile (program t) start) n start σ)

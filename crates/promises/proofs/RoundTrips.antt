@@ -29,12 +29,12 @@ front-is written room after n e h left = rw (e, left) (take-sets written room h)
 
 module _ (first second : Call) (again : Again first second) where
   -- the first call, with its answer
-  accepted-end : (end : Ended Text ℕ) → ended (first .answer) (first .after) ≡ end
+  accepted-end : (end : Ended Text (List ℕ)) → ended (first .answer) (first .after) ≡ end
       → ended (Text.Done (again .amount)) (first .after) ≡ end
   accepted-end end e = rw (again .accepted) at e
 
   -- the second call, given what the first wrote, is done with what the first was given
-  gives-back : (definition : List ℕ → List ℕ → Ended Text ℕ) (written : List ℕ) → take (again .amount) (first .after) ≡ written
+  gives-back : (definition : List ℕ → List ℕ → Ended Text (List ℕ)) (written : List ℕ) → take (again .amount) (first .after) ≡ written
       → done (length (first .given)) (second .room) (first .given) ≡ definition written (second .room)
       → Meets definition second → GivesBack first second
   gives-back definition written front ends meets =

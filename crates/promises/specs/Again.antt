@@ -15,7 +15,7 @@ pub record Call : Type 0 where
   pub answer : Text
   pub after : List ℕ
 
-abbrev pub Meets : (List ℕ → List ℕ → Ended Text ℕ) → Call → Type 0
+abbrev pub Meets : (List ℕ → List ℕ → Ended Text (List ℕ)) → Call → Type 0
 Meets definition c = ended (c .answer) (c .after) ≡ definition (c .given) (c .room)
 
 -- what the first call was given is accepted, the second is given what the first wrote, and has room for what the first was given

@@ -9,5 +9,5 @@ use Rattle.rules.specs.declared.Text.{Text}
 use Rattle.rules.specs.Answer.{done}
 
 -- "reading text the number of words"
-unfoldable pub reading : ℕ → List ℕ → List ℕ → Ended Text ℕ
+unfoldable pub reading : ℕ → List ℕ → List ℕ → Ended Text (List ℕ)
 reading w b room = unlessRefused Text.Refused (readRefusal w b (length room)) room (done (w * lines w b) room (wordsOfText w b))

@@ -11,16 +11,16 @@ use Rattle.rules.specs.declared.Refusal.{Refusal}
 use Rattle.rules.specs.declared.Compiled.{Compiled}
 use Rattle.rules.specs.declared.Text.{Text}
 
-module _ {Answer Word : Type 0} {end : Ended Answer Word} {x : Answer} {l : List Word} where
+module _ {Answer Lent : Type 0} {end : Ended Answer Lent} {x : Answer} {l : Lent} where
   pub answer-is : ended x l ≡ end → x ≡ end .answer
-  answer-is e = ap (λ (z : Ended Answer Word). z .answer) e
+  answer-is e = ap (λ (z : Ended Answer Lent). z .answer) e
 
   pub after-is : ended x l ≡ end → l ≡ end .after
-  after-is e = ap (λ (z : Ended Answer Word). z .after) e
+  after-is e = ap (λ (z : Ended Answer Lent). z .after) e
 
-  -- two ends that meet one definition have one answer and one buffer
-  pub one-end : {y : Answer} {m : List Word} → ended x l ≡ end → ended y m ≡ end → (x ≡ y) × (l ≡ m)
-  one-end p q = (answer-is p ∙ sym (ap (λ (z : Ended Answer Word). z .answer) q), after-is p ∙ sym (ap (λ (z : Ended Answer Word). z .after) q))
+  -- two ends that meet one definition have one answer, and leave what was lent the same
+  pub one-end : {y : Answer} {m : Lent} → ended x l ≡ end → ended y m ≡ end → (x ≡ y) × (l ≡ m)
+  one-end p q = (answer-is p ∙ sym (ap (λ (z : Ended Answer Lent). z .answer) q), after-is p ∙ sym (ap (λ (z : Ended Answer Lent). z .after) q))
 
 -- ---- which refusal an answer carries
 
@@ -40,7 +40,7 @@ text-carries = record { carried = λ x. elim x [ Text.Done n ↦ none | Text.Ref
 never : {r : Refusal} → some r ≡ none → ⊥
 never {r} e = let z : _≡_ {A = ℕ} 0 1 = cc in omega arith
 
-module _ {Answer Word : Type 0} (refusal : Refusal → Answer) (o : Option Refusal) (lent : List Word) (end : Ended Answer Word) where
+module _ {Answer Lent : Type 0} (refusal : Refusal → Answer) (o : Option Refusal) (lent : Lent) (end : Ended Answer Lent) where
   pub ends-refused : {r : Refusal} → o ≡ some r → unlessRefused refusal o lent end ≡ ended (refusal r) lent
   unfolding unlessRefused
   ends-refused e = rw e
@@ -50,23 +50,23 @@ module _ {Answer Word : Type 0} (refusal : Refusal → Answer) (o : Option Refus
   ends-unrefused e = rw e
 
 -- what holds of each of the two ends holds of the call's
-pub either-end : {Answer Word : Type 0} (refusal : Refusal → Answer) (o : Option Refusal) (lent : List Word) (end : Ended Answer Word)
-    (P : Ended Answer Word → Type 0) → ((r : Refusal) → o ≡ some r → P (ended (refusal r) lent)) → (o ≡ none → P end)
+pub either-end : {Answer Lent : Type 0} (refusal : Refusal → Answer) (o : Option Refusal) (lent : Lent) (end : Ended Answer Lent)
+    (P : Ended Answer Lent → Type 0) → ((r : Refusal) → o ≡ some r → P (ended (refusal r) lent)) → (o ≡ none → P end)
     → P (unlessRefused refusal o lent end)
 unfolding unlessRefused
 either-end refusal (some r) lent end P refused unrefused = refused r refl
 either-end refusal none lent end P refused unrefused = unrefused refl
 
-module _ {Answer Word : Type 0} {refusal : Refusal → Answer} (c : Carries refusal) where
+module _ {Answer Lent : Type 0} {refusal : Refusal → Answer} (c : Carries refusal) where
   -- an answer that carries no refusal came from a call without one
-  pub was-unrefused : (o : Option Refusal) (lent : List Word) (end : Ended Answer Word) {x : Answer} {l : List Word} → c .carried x ≡ none
+  pub was-unrefused : (o : Option Refusal) (lent : Lent) (end : Ended Answer Lent) {x : Answer} {l : Lent} → c .carried x ≡ none
       → ended x l ≡ unlessRefused refusal o lent end → (o ≡ none) × (ended x l ≡ end)
   unfolding unlessRefused
   was-unrefused (some r) lent end plain e = absurd (never (sym (c .reads r) ∙ ap (c .carried) (sym (answer-is e)) ∙ plain))
   was-unrefused none lent end plain e = (refl, e)
 
   -- a refusal is the one that its call earned, and what was lent is as it was
-  pub was-refused : (o : Option Refusal) (lent : List Word) (end : Ended Answer Word) {r : Refusal} {l : List Word} → c .carried (end .answer) ≡ none
+  pub was-refused : (o : Option Refusal) (lent : Lent) (end : Ended Answer Lent) {r : Refusal} {l : Lent} → c .carried (end .answer) ≡ none
       → ended (refusal r) l ≡ unlessRefused refusal o lent end → (o ≡ some r) × (l ≡ lent)
   unfolding unlessRefused
   was-refused (some q) lent end {r} plain e = (sym (c .reads q) ∙ ap (c .carried) (sym (answer-is e)) ∙ c .reads r, after-is e)

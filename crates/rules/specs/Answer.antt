@@ -42,20 +42,20 @@ unfoldable pub textWords : Text → List ℕ
 textWords (Text.Done amount) = eight 0 0 0 0 amount
 textWords (Text.Refused r) = refused r
 
--- how a call ended: its answer, and what the lent buffer holds then. "A refusal alters nothing lent; success alters only the words or
--- bytes it writes, from the front of the room on, and a run only the store."
-pub record Ended (Answer Word : Type 0) : Type 0 where
+-- how a call ended: its answer, and what it was lent to write to, as that is then. "A refusal alters nothing lent; success alters only the
+-- words or bytes it writes, from the front of the room on, and a run only the store."
+pub record Ended (Answer Lent : Type 0) : Type 0 where
   pub answer : Answer
-  pub after : List Word
+  pub after : Lent
 
-abbrev pub ended : {Answer Word : Type 0} → Answer → List Word → Ended Answer Word
+abbrev pub ended : {Answer Lent : Type 0} → Answer → Lent → Ended Answer Lent
 ended answer after = record { answer = answer; after = after }
 
--- a call that is refused answers so, with the buffer as it was; any other ends as it ends
-unfoldable pub unlessRefused : {Answer Word : Type 0} → (Refusal → Answer) → Option Refusal → List Word → Ended Answer Word → Ended Answer Word
+-- a call that is refused answers so, with what it was lent as it was; any other ends as it ends
+unfoldable pub unlessRefused : {Answer Lent : Type 0} → (Refusal → Answer) → Option Refusal → Lent → Ended Answer Lent → Ended Answer Lent
 unlessRefused refusal (some r) lent end = ended (refusal r) lent
 unlessRefused refusal none lent end = end
 
 -- a call on text that is not refused: "success alters only the words or bytes it writes, from the front of the room on"
-abbrev pub done : ℕ → List ℕ → List ℕ → Ended Text ℕ
+abbrev pub done : ℕ → List ℕ → List ℕ → Ended Text (List ℕ)
 done amount room written = ended (Text.Done amount) (sets room 0 written)

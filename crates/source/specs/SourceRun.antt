@@ -3,7 +3,6 @@
 use Prim.Native.Nat.{ℕ, _-_}
 use mathlib.Core.List.{List}
 use mathlib.Core.Option.{Option}
-use lib.IntN.{ℤ}
 use Rattle.rules.specs.Expression.{Store}
 use Rattle.rules.specs.While.{Outcome, done, stop, exec}
 use Rattle.rules.specs.Table.{meaning, program, tableRefusal}
@@ -18,9 +17,9 @@ unfoldable pub sourceRefusal : List ℕ → Store → Option Refusal
 sourceRefusal t σ = tableRefusal t orElse storeRefusal σ
 
 -- what the run's end tells, and leaves
-unfoldable pub sourceEnd : ℕ → Outcome → Ended SourceRun ℤ
+unfoldable pub sourceEnd : ℕ → Outcome → Ended SourceRun Store
 sourceEnd n (done σ left) = ended (SourceRun.Finished (n - left)) σ
 sourceEnd n (stop σ) = ended (SourceRun.OutOfFuel n) σ
 
-unfoldable pub sourceRun : List ℕ → Store → ℕ → Ended SourceRun ℤ
+unfoldable pub sourceRun : List ℕ → Store → ℕ → Ended SourceRun Store
 sourceRun t σ n = unlessRefused SourceRun.Refused (sourceRefusal t σ) σ (sourceEnd n (exec (meaning t) (program t) n σ))

@@ -58,6 +58,25 @@ fn own_code(table: &[u32], given: Given) {
     code(table, &room, given);
 }
 
+// Numbers given: start label, values of the stores, fuel, and words of the room, each aaaaaaaa before the call. There are 513 stores to take them
+// from, one more than a depot may have, and v1 of crew 1 is 1; all else is 0.
+fn depot(table: &[u32], code: &[u32], given: Given) {
+    let mut values = [0i32; 16416];
+    values[33] = 1;
+    let mut words = [0xaaaaaaaa; 4100];
+    let n = parts::size(given.fourth);
+    show::checked(depot::run_depot(
+        table,
+        code,
+        given.first,
+        parts::store(&mut values, parts::size(given.second)),
+        given.third,
+        parts::word_room(&mut words, n),
+    ));
+    show::words(&words, n);
+    show::crews(&values);
+}
+
 // Reads to the first n words of a room, each aaaaaaaa before the call.
 fn read(text: &[u8], n: usize) {
     let mut words = [0xaaaaaaaa; 4100];
@@ -101,6 +120,7 @@ pub(crate) fn call(kind: u8, table: &[u32], instructions: &[u32], below: &[u8], 
         b's' => source(table, given),
         b'g' => code(table, instructions, given),
         b'o' => own_code(table, given),
+        b'd' => depot(table, instructions, given),
         b'r' => read(parts::bytes(below, 0, first), second),
         b'z' => read_zeros(first),
         b'w' => write(table, first),

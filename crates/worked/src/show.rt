@@ -95,6 +95,13 @@ pub(crate) fn bytes(room: &[u8; 33792], n: usize) {
     }
 }
 
+// v1 of the first two crews.
+pub(crate) fn crews(values: &[i32; 16416]) {
+    value(b"  v1 = ", values[1]);
+    value(b" and ", values[33]);
+    say(b"\n");
+}
+
 // The first two values of a store, where it is one.
 pub(crate) fn variables(values: &[i32; 33], n: usize) {
     if n == 32 {

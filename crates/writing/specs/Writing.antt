@@ -9,6 +9,6 @@ use Rattle.rules.specs.declared.Text.{Text}
 use Rattle.rules.specs.Answer.{done}
 
 -- "and writing text the number of bytes it wrote"
-unfoldable pub writing : ℕ → List ℕ → List ℕ → Ended Text ℕ
+unfoldable pub writing : ℕ → List ℕ → List ℕ → Ended Text (List ℕ)
 writing w ws room =
     unlessRefused Text.Refused (writeRefusal w ws (length room)) room (done (lineLength w * (length ws / w)) room (textOf w ws))

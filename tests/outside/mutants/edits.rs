@@ -8,6 +8,11 @@ pub struct Edit {
     to: &'static str,
 }
 
+/// A depot's loop, which several faults replace.
+const EACH_CREW: &str = "    for (store, row) in stores.iter_mut().zip(rows) {
+        *row = row_of(program.run(start, store, fuel));
+    }";
+
 pub const EDITS: &[Edit] = &[
     // The four of "Easy ways to get it wrong".
     Edit {
@@ -35,23 +40,23 @@ pub const EDITS: &[Edit] = &[
     Edit {
         says: "fuel is tested before the finish, so that exact fuel fails",
         file: "code.rs",
-        from: "    loop {
-        // \"A label",
-        to: "    loop {
-        if steps == fuel {
-            return Ok(out_of_fuel(label, steps));
-        }
-        // \"A label",
+        from: "        loop {
+            // \"A label",
+        to: "        loop {
+            if steps == fuel {
+                return out_of_fuel(label, steps);
+            }
+            // \"A label",
     },
     Edit {
         says: "a label outside the code is a refusal",
         file: "code.rs",
-        from: "return Ok(finished(label, steps));",
-        to: "return if code.iter().any(|last| last.label + 1 == label) || code.is_empty() {
-                Ok(finished(label, steps))
-            } else {
-                refuse(13, 0)
-            };",
+        from: "return finished(label, steps);",
+        to: "return if self.code.iter().any(|last| last.label + 1 == label) || self.code.is_empty() {
+                    finished(label, steps)
+                } else {
+                    super::answer::refused(Refusal { number: 13, place: 0 })
+                };",
     },
     Edit {
         says: "the jump that closes a loop pass is not charged",
@@ -354,17 +359,275 @@ pub const EDITS: &[Edit] = &[
     Edit {
         says: "a jump to its own label is no step",
         file: "code.rs",
-        from: "            Operation::Goto { target } => target,",
-        to: "            Operation::Goto { target } if target == label => return Ok(finished(label, steps)),
-            Operation::Goto { target } => target,",
+        from: "                Operation::Goto { target } => target,",
+        to: "                Operation::Goto { target } if target == label => return finished(label, steps),
+                Operation::Goto { target } => target,",
     },
     Edit {
         says: "a run goes to the next instruction over a gap",
         file: "code.rs",
-        from: "                store[variable] = arithmetic(&nodes, expression, store);
-                label + 1",
-        to: "                store[variable] = arithmetic(&nodes, expression, store);
-                code.get(position as usize + 1).map_or(label + 1, |next| next.label)",
+        from: "                    store[variable] = arithmetic(&self.nodes, expression, store);
+                    label + 1",
+        to: "                    store[variable] = arithmetic(&self.nodes, expression, store);
+                    self.code.get(position as usize + 1).map_or(label + 1, |next| next.label)",
+    },
+    // Depots.
+    Edit {
+        says: "a crew's part begins one value late, the last one's at its place",
+        file: "depot.rs",
+        from: "    let (stores, _) = stores.as_chunks_mut();
+    let (rows, _) = room.as_chunks_mut();
+    for (store, row) in stores.iter_mut().zip(rows) {
+        *row = row_of(program.run(start, store, fuel));
+    }",
+        to: "    let last = stores.len().saturating_sub(VARIABLES);
+    let (rows, _) = room.as_chunks_mut();
+    for (crew, row) in rows.iter_mut().take(stores.len() / VARIABLES).enumerate() {
+        let part = &mut stores[(VARIABLES * crew + 1).min(last)..][..VARIABLES];
+        *row = row_of(program.run(start, part.try_into().unwrap(), fuel));
+    }",
+    },
+    Edit {
+        says: "the crews stand in the room in reverse order",
+        file: "depot.rs",
+        from: "stores.iter_mut().zip(rows)",
+        to: "stores.iter_mut().rev().zip(rows)",
+    },
+    Edit {
+        says: "the last crew is left out",
+        file: "depot.rs",
+        from: "    for (store, row) in stores.iter_mut().zip(rows) {",
+        to: "    let others = stores.len().saturating_sub(1);
+    for (store, row) in stores[..others].iter_mut().zip(rows) {",
+    },
+    Edit {
+        says: "a crew that is out of fuel ends the depot",
+        file: "depot.rs",
+        from: EACH_CREW,
+        to: "    for (store, row) in stores.iter_mut().zip(rows) {
+        *row = row_of(program.run(start, store, fuel));
+        if row[0] == 1 {
+            break;
+        }
+    }",
+    },
+    Edit {
+        says: "the crews share the fuel",
+        file: "depot.rs",
+        from: EACH_CREW,
+        to: "    let mut left = fuel;
+    for (store, row) in stores.iter_mut().zip(rows) {
+        *row = row_of(program.run(start, store, left));
+        left -= row[2];
+    }",
+    },
+    Edit {
+        says: "a crew begins where the one before it ended",
+        file: "depot.rs",
+        from: EACH_CREW,
+        to: "    let mut label = start;
+    for (store, row) in stores.iter_mut().zip(rows) {
+        *row = row_of(program.run(label, store, fuel));
+        label = row[1];
+    }",
+    },
+    Edit {
+        says: "the stores stay as they were",
+        file: "depot.rs",
+        from: "program.run(start, store, fuel)",
+        to: "program.run(start, &mut store.clone(), fuel)",
+    },
+    Edit {
+        says: "the verdict words are swapped",
+        file: "depot.rs",
+        from: "verdict == OUT_OF_FUEL",
+        to: "verdict != OUT_OF_FUEL",
+    },
+    Edit {
+        says: "the verdict words are those of an answer",
+        file: "depot.rs",
+        from: "u32::from(verdict == OUT_OF_FUEL)",
+        to: "verdict",
+    },
+    Edit {
+        says: "label and steps are swapped",
+        file: "depot.rs",
+        from: "label, steps]
+}",
+        to: "steps, label]
+}",
+    },
+    Edit {
+        says: "the answer tells the crews",
+        file: "depot.rs",
+        from: "    Ok(done(0, 0))",
+        to: "    Ok(done(0, stores.len() as u32))",
+    },
+    Edit {
+        says: "the rest of a depot's room is cleared",
+        file: "depot.rs",
+        from: "    Ok(done(0, 0))",
+        to: "    room[ROW * stores.len()..].fill(0);
+    Ok(done(0, 0))",
+    },
+    Edit {
+        says: "without crews the table is not judged",
+        file: "depot.rs",
+        from: "    let nodes = accepted(table)?;
+",
+        to: "    let nodes = if stores.is_empty() { vec![] } else { accepted(table)? };
+",
+    },
+    Edit {
+        says: "without crews the start label is not judged",
+        file: "depot.rs",
+        from: "start > LAST_TARGET",
+        to: "start > LAST_TARGET && !stores.is_empty()",
+    },
+    Edit {
+        says: "without crews the code is not judged",
+        file: "depot.rs",
+        from: "    let code = decode(table, code)?;
+",
+        to: "    if stores.is_empty() {
+        return Ok(done(0, 0));
+    }
+    let code = decode(table, code)?;
+",
+    },
+    Edit {
+        says: "513 crews pass",
+        file: "depot.rs",
+        from: "MOST_CREWS: usize = 512",
+        to: "MOST_CREWS: usize = 513",
+    },
+    Edit {
+        says: "512 crews are too many",
+        file: "depot.rs",
+        from: "stores.len() > VARIABLES * MOST_CREWS",
+        to: "stores.len() >= VARIABLES * MOST_CREWS",
+    },
+    Edit {
+        says: "stores of any length up to the most pass",
+        file: "depot.rs",
+        from: "!stores.len().is_multiple_of(VARIABLES) || ",
+        to: "",
+    },
+    Edit {
+        says: "two words a crew are room enough",
+        file: "depot.rs",
+        from: "room.len() < ROW *",
+        to: "room.len() < (ROW - 1) *",
+    },
+    Edit {
+        says: "the room must have a word to spare",
+        file: "depot.rs",
+        from: "room.len() < ROW *",
+        to: "room.len() <= ROW *",
+    },
+    Edit {
+        says: "the stores' length is judged before the table",
+        file: "depot.rs",
+        from: "    let nodes = accepted(table)?;
+    if bad_length(stores) {
+        return refuse(10, 0);
+    }
+",
+        to: "    if bad_length(stores) {
+        return refuse(10, 0);
+    }
+    let nodes = accepted(table)?;
+",
+    },
+    Edit {
+        says: "in a depot 11 comes before 10",
+        file: "depot.rs",
+        from: "    if bad_length(stores) {
+        return refuse(10, 0);
+    }
+    if start > LAST_TARGET {
+        return refuse(11, 0);
+    }
+",
+        to: "    if start > LAST_TARGET {
+        return refuse(11, 0);
+    }
+    if bad_length(stores) {
+        return refuse(10, 0);
+    }
+",
+    },
+    Edit {
+        says: "in a depot 13 comes before 11",
+        file: "depot.rs",
+        from: "    if start > LAST_TARGET {
+        return refuse(11, 0);
+    }
+    let code = decode(table, code)?;
+",
+        to: "    let code = decode(table, code)?;
+    if start > LAST_TARGET {
+        return refuse(11, 0);
+    }
+",
+    },
+    Edit {
+        says: "16 comes before 10",
+        file: "depot.rs",
+        from: "    if bad_length(stores) {
+        return refuse(10, 0);
+    }
+",
+        to: "    if room_too_small(stores, room) {
+        return refuse(16, 0);
+    }
+    if bad_length(stores) {
+        return refuse(10, 0);
+    }
+",
+    },
+    Edit {
+        says: "16 comes before 11",
+        file: "depot.rs",
+        from: "    if start > LAST_TARGET {
+        return refuse(11, 0);
+    }
+",
+        to: "    if room_too_small(stores, room) {
+        return refuse(16, 0);
+    }
+    if start > LAST_TARGET {
+        return refuse(11, 0);
+    }
+",
+    },
+    Edit {
+        says: "16 comes before 13",
+        file: "depot.rs",
+        from: "    let code = decode(table, code)?;
+",
+        to: "    if room_too_small(stores, room) {
+        return refuse(16, 0);
+    }
+    let code = decode(table, code)?;
+",
+    },
+    Edit {
+        says: "the room is cleared before 16 is told",
+        file: "depot.rs",
+        from: "        return refuse(16, 0);",
+        to: "        room.fill(0);
+        return refuse(16, 0);",
+    },
+    Edit {
+        says: "the crews are run before 16 is told",
+        file: "depot.rs",
+        from: "        return refuse(16, 0);",
+        to: "        let program = Program::new(nodes, code);
+        for store in stores.as_chunks_mut().0 {
+            program.run(start, store, fuel);
+        }
+        return refuse(16, 0);",
     },
     // Text.
     Edit {

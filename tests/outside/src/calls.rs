@@ -1,4 +1,4 @@
-//! The six calls of the C boundary as function pointers, so that the library, the oracle and the oracle's mutants can
+//! The seven calls of the C boundary as function pointers, so that the library, the oracle and the oracle's mutants can
 //! all stand on the tested side. A slice passes as pointer and length, an answer as a pointer to eight words.
 
 #[derive(Clone, Copy)]
@@ -7,6 +7,19 @@ pub struct Calls {
     pub compile: unsafe extern "C" fn(*const u32, usize, u32, *mut u32, usize, *mut u32),
     pub run_source: unsafe extern "C" fn(*const u32, usize, *mut i32, usize, u32, *mut u32),
     pub run_code: unsafe extern "C" fn(*const u32, usize, *const u32, usize, u32, *mut i32, usize, u32, *mut u32),
+    pub run_depot: unsafe extern "C" fn(
+        *const u32,
+        usize,
+        *const u32,
+        usize,
+        u32,
+        *mut i32,
+        usize,
+        u32,
+        *mut u32,
+        usize,
+        *mut u32,
+    ),
     pub read_text: unsafe extern "C" fn(*const u8, usize, *mut u32, usize, *mut u32),
     pub write_text: unsafe extern "C" fn(*const u32, usize, *mut u8, usize, *mut u32),
 }
@@ -42,6 +55,19 @@ mod library {
             fuel: u32,
             answer: *mut u32,
         );
+        pub fn rill_run_depot(
+            table: *const u32,
+            table_len: usize,
+            code: *const u32,
+            code_len: usize,
+            start: u32,
+            stores: *mut i32,
+            stores_len: usize,
+            fuel: u32,
+            room: *mut u32,
+            room_len: usize,
+            answer: *mut u32,
+        );
         pub fn rill_read_text(text: *const u8, text_len: usize, room: *mut u32, room_len: usize, answer: *mut u32);
         pub fn rill_write_text(words: *const u32, words_len: usize, room: *mut u8, room_len: usize, answer: *mut u32);
     }
@@ -58,6 +84,7 @@ pub fn subject() -> Calls {
         compile: library::rill_compile,
         run_source: library::rill_run_source,
         run_code: library::rill_run_code,
+        run_depot: library::rill_run_depot,
         read_text: library::rill_read_text,
         write_text: library::rill_write_text,
     }
@@ -69,7 +96,7 @@ pub fn subject() -> Calls {
     crate::calls_of!(crate::oracle)
 }
 
-/// Makes the six calls of a module shaped like `oracle`. A panic, which only a mutant can raise, must not leave an
+/// Makes the seven calls of a module shaped like `oracle`. A panic, which only a mutant can raise, must not leave an
 /// `extern "C"` function: it becomes an answer that is never right.
 #[macro_export]
 macro_rules! calls_of {
@@ -131,6 +158,31 @@ macro_rules! calls_of {
                 )
             })
         }
+        #[allow(clippy::too_many_arguments)]
+        unsafe extern "C" fn run_depot(
+            table: *const u32,
+            table_len: usize,
+            code: *const u32,
+            code_len: usize,
+            start: u32,
+            stores: *mut i32,
+            stores_len: usize,
+            fuel: u32,
+            room: *mut u32,
+            room_len: usize,
+            answer: *mut u32,
+        ) {
+            give(answer, || {
+                module::run_depot(
+                    from_raw_parts(table, table_len),
+                    from_raw_parts(code, code_len),
+                    start,
+                    from_raw_parts_mut(stores, stores_len),
+                    fuel,
+                    from_raw_parts_mut(room, room_len),
+                )
+            })
+        }
         unsafe extern "C" fn read_text(
             text: *const u8,
             text_len: usize,
@@ -149,6 +201,6 @@ macro_rules! calls_of {
         ) {
             give(answer, || module::write_text(from_raw_parts(words, words_len), from_raw_parts_mut(room, room_len)))
         }
-        $crate::calls::Calls { check, compile, run_source, run_code, read_text, write_text }
+        $crate::calls::Calls { check, compile, run_source, run_code, run_depot, read_text, write_text }
     }};
 }

@@ -11,13 +11,14 @@ pub enum Call {
     Compile,
     RunSource,
     RunCode,
+    RunDepot,
     ReadText,
     WriteText,
 }
 
 impl Call {
-    pub const ALL: [Call; 6] =
-        [Call::Check, Call::Compile, Call::RunSource, Call::RunCode, Call::ReadText, Call::WriteText];
+    pub const ALL: [Call; 7] =
+        [Call::Check, Call::Compile, Call::RunSource, Call::RunCode, Call::RunDepot, Call::ReadText, Call::WriteText];
 
     pub fn name(self) -> &'static str {
         match self {
@@ -25,6 +26,7 @@ impl Call {
             Call::Compile => "compile",
             Call::RunSource => "run_source",
             Call::RunCode => "run_code",
+            Call::RunDepot => "run_depot",
             Call::ReadText => "read_text",
             Call::WriteText => "write_text",
         }
@@ -37,11 +39,12 @@ pub enum Case {
     Compile { table: Vec<u32>, start: u32, room: Vec<u32> },
     RunSource { table: Vec<u32>, store: Vec<i32>, fuel: u32 },
     RunCode { table: Vec<u32>, code: Vec<u32>, start: u32, store: Vec<i32>, fuel: u32 },
+    RunDepot { table: Vec<u32>, code: Vec<u32>, start: u32, stores: Vec<i32>, fuel: u32, room: Vec<u32> },
     ReadText { text: Vec<u8>, room: Vec<u32> },
     WriteText { words: Vec<u32>, room: Vec<u8> },
 }
 
-/// The answer, and the buffer that the call might alter, as it is afterwards.
+/// The answer, and what the call might alter, as it is afterwards.
 #[derive(Clone, PartialEq, Eq)]
 pub struct Outcome {
     pub answer: Answer,
@@ -54,6 +57,7 @@ pub enum Buffer {
     Words(Vec<u32>),
     Values(Vec<i32>),
     Bytes(Vec<u8>),
+    Depot { stores: Vec<i32>, room: Vec<u32> },
 }
 
 impl Case {
@@ -63,6 +67,7 @@ impl Case {
             Case::Compile { .. } => Call::Compile,
             Case::RunSource { .. } => Call::RunSource,
             Case::RunCode { .. } => Call::RunCode,
+            Case::RunDepot { .. } => Call::RunDepot,
             Case::ReadText { .. } => Call::ReadText,
             Case::WriteText { .. } => Call::WriteText,
         }
@@ -79,6 +84,9 @@ impl Case {
             }
             Case::RunCode { table, code, start, mut store, fuel } => {
                 (oracle::run_code(&table, &code, start, &mut store, fuel), Buffer::Values(store))
+            }
+            Case::RunDepot { table, code, start, mut stores, fuel, mut room } => {
+                (oracle::run_depot(&table, &code, start, &mut stores, fuel, &mut room), Buffer::Depot { stores, room })
             }
             Case::ReadText { text, mut room } => (oracle::read_text(&text, &mut room), Buffer::Words(room)),
             Case::WriteText { words, mut room } => (oracle::write_text(&words, &mut room), Buffer::Bytes(room)),
@@ -102,6 +110,10 @@ impl Case {
             Case::RunCode { table, code, start, store, fuel } => {
                 let (answer, store) = guarded.run_code(table, code, *start, store, *fuel);
                 (answer, Buffer::Values(store))
+            }
+            Case::RunDepot { table, code, start, stores, fuel, room } => {
+                let (answer, stores, room) = guarded.run_depot(table, code, *start, stores, *fuel, room);
+                (answer, Buffer::Depot { stores, room })
             }
             Case::ReadText { text, room } => {
                 let (answer, room) = guarded.read_text(text, room);
@@ -139,6 +151,14 @@ impl Display for Case {
                 list(f, "store", store, 8)?;
                 writeln!(f, "  fuel {fuel:x}")
             }
+            Case::RunDepot { table, code, start, stores, fuel, room } => {
+                list(f, "table", table, 4)?;
+                list(f, "code", code, 4)?;
+                writeln!(f, "  start {start:x}")?;
+                list(f, "stores", stores, 8)?;
+                writeln!(f, "  fuel {fuel:x}")?;
+                list(f, "room", room, 3)
+            }
             Case::ReadText { text, room } => {
                 list(f, "text", text, 33)?;
                 list(f, "room", room, 4)
@@ -165,20 +185,22 @@ fn list<T: LowerHex>(f: &mut Formatter, name: &str, elements: &[T], in_line: usi
 }
 
 impl Buffer {
-    /// Where two buffers first differ, in words.
-    pub fn difference(&self, other: &Buffer) -> String {
-        match (self, other) {
-            (Buffer::Words(a), Buffer::Words(b)) => first_difference(a, b),
-            (Buffer::Values(a), Buffer::Values(b)) => first_difference(a, b),
-            (Buffer::Bytes(a), Buffer::Bytes(b)) => first_difference(a, b),
-            _ => String::new(),
-        }
+    /// Where each buffer first differs from the other's, in words.
+    pub fn differences(&self, other: &Buffer) -> Vec<String> {
+        let found = match (self, other) {
+            (Buffer::Words(a), Buffer::Words(b)) => vec![first_difference("room", a, b)],
+            (Buffer::Values(a), Buffer::Values(b)) => vec![first_difference("store", a, b)],
+            (Buffer::Bytes(a), Buffer::Bytes(b)) => vec![first_difference("room", a, b)],
+            (Buffer::Depot { stores: a, room: c }, Buffer::Depot { stores: b, room: d }) => {
+                vec![first_difference("stores", a, b), first_difference("room", c, d)]
+            }
+            _ => vec![],
+        };
+        found.into_iter().flatten().collect()
     }
 }
 
-fn first_difference<T: LowerHex + PartialEq>(expected: &[T], got: &[T]) -> String {
-    match expected.iter().zip(got).position(|(a, b)| a != b) {
-        Some(i) => format!("lent element {i} should be {:x} and is {:x}", expected[i], got[i]),
-        None => String::new(),
-    }
+fn first_difference<T: LowerHex + PartialEq>(name: &str, expected: &[T], got: &[T]) -> Option<String> {
+    let i = expected.iter().zip(got).position(|(a, b)| a != b)?;
+    Some(format!("element {i} of {name} should be {:x} and is {:x}", expected[i], got[i]))
 }

@@ -4,7 +4,7 @@ use crate::calls::Calls;
 use crate::case::{Case, Outcome};
 use crate::families::{long_runs, ROUND};
 use crate::random::Random;
-use crate::round_trips::{code_follows_source, text_is_read_back};
+use crate::round_trips::{code_follows_source, depot_is_its_crews, text_is_read_back};
 use crate::tally::Tally;
 use crate::worked;
 
@@ -45,6 +45,7 @@ pub fn compare(calls: &Calls, plan: &Plan) -> Report {
         }
         report.record(text_is_read_back(calls, &mut random));
         report.record(code_follows_source(calls, &mut random));
+        report.record(depot_is_its_crews(calls, &mut random));
     }
     if report.failed < plan.patience {
         report.try_all(calls, plan, long_runs());
@@ -59,10 +60,8 @@ fn judge(calls: &Calls, case: &Case, expected: &Outcome, turn: usize) -> Result<
         return Ok(());
     }
     let mut fault = format!("{case}  expected {:x?}\n  got      {:x?}\n", expected.answer, got.answer);
-    for line in [expected.after.difference(&got.after)].iter().chain(&trespasses) {
-        if !line.is_empty() {
-            fault += &format!("  {line}\n");
-        }
+    for line in expected.after.differences(&got.after).iter().chain(&trespasses) {
+        fault += &format!("  {line}\n");
     }
     Err(fault)
 }
@@ -71,7 +70,7 @@ impl Report {
     fn try_all(&mut self, calls: &Calls, plan: &Plan, cases: Vec<Case>) {
         for case in cases {
             let expected = case.by_oracle();
-            self.tally.count(&case, &expected.answer);
+            self.tally.count(&case, &expected);
             let number = self.tally.cases();
             if plan.trace {
                 eprintln!("case {number}: {}", case.call().name());

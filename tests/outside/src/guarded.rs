@@ -1,4 +1,4 @@
-//! The six calls over memory that stands between guards. Whoever writes outside what is lent, or alters what is lent
+//! The seven calls over memory that stands between guards. Whoever writes outside what is lent, or alters what is lent
 //! for reading, is found out. The guards change from case to case, so that an answer drawn from them is sometimes wrong.
 
 use crate::calls::Calls;
@@ -58,7 +58,7 @@ impl<T: Element> Lent<T> {
     }
 }
 
-/// The calls, safe to make from any slices; each gives the answer and the altered buffer.
+/// The calls, safe to make from any slices; each gives the answer and the buffers that it might alter.
 pub struct Guarded<'a> {
     calls: &'a Calls,
     turn: usize,
@@ -123,6 +123,30 @@ impl<'a> Guarded<'a> {
         self.unaltered("table", words, table);
         self.unaltered("code", frames, code);
         (self.answered(answer), self.returned("store", store))
+    }
+
+    pub fn run_depot(
+        &mut self,
+        table: &[u32],
+        code: &[u32],
+        start: u32,
+        stores: &[i32],
+        fuel: u32,
+        room: &[u32],
+    ) -> (Answer, Vec<i32>, Vec<u32>) {
+        let (mut words, mut frames) = (self.lend(table), self.lend(code));
+        let (mut stores, mut room, mut answer) = (self.lend(stores), self.lend(room), self.lend_answer());
+        unsafe {
+            let (words, words_len) = (words.pointer(), words.len());
+            let (frames, frames_len) = (frames.pointer(), frames.len());
+            let (stores, stores_len) = (stores.pointer(), stores.len());
+            let (room, room_len) = (room.pointer(), room.len());
+            let (answer, run_depot) = (answer.pointer(), self.calls.run_depot);
+            run_depot(words, words_len, frames, frames_len, start, stores, stores_len, fuel, room, room_len, answer);
+        }
+        self.unaltered("table", words, table);
+        self.unaltered("code", frames, code);
+        (self.answered(answer), self.returned("stores", stores), self.returned("room", room))
     }
 
     pub fn read_text(&mut self, text: &[u8], room: &[u32]) -> (Answer, Vec<u32>) {

@@ -1,5 +1,6 @@
-//! The static library of Rillgiggle, seen from outside: a plain implementation of document 01 (`oracle`), the calls of
-//! the C boundary (`calls`, and `guarded` over lent memory that is watched), random inputs, and their comparison.
+//! The static library of Rillgiggle, seen from outside: a plain implementation of document 01 and request A1 (`oracle`),
+//! the calls of the C boundary (`calls`, and `guarded` over lent memory that is watched), random inputs, and their
+//! comparison.
 
 pub mod calls;
 pub mod case;

@@ -1,17 +1,19 @@
 //! Which grounds for a refusal an input gives beside the one that is told. The order of the refusals is tested only
 //! where two grounds compete, so the program counts how often each pair did.
 
-use crate::case::Case;
+use crate::case::{Call, Case};
 use crate::oracle::answer::Refusal;
 use crate::oracle::code::LAST_TARGET;
 use crate::oracle::table::{self, class_at, class_of, frame, words_used, Class, Word, VARIABLES};
-use crate::oracle::{self, text};
+use crate::oracle::{self, depot, text};
 
 #[derive(Clone, Copy, Debug, PartialEq, Eq, PartialOrd, Ord)]
 pub enum Where {
     SameNode,
     LaterNode,
     Elsewhere,
+    /// Elsewhere, in a depot. Counted apart: that a code run keeps the order says nothing of a depot.
+    InDepot,
 }
 
 /// The grounds that lost against the refusal told, with where they stand to it.
@@ -22,6 +24,7 @@ pub fn rivals(case: &Case, told: Refusal) -> Vec<(Where, u32)> {
         .map(|ground| match at_node(&ground) && at_node(&told) {
             true if ground.place == told.place => (Where::SameNode, ground.number),
             true => (Where::LaterNode, ground.number),
+            false if case.call() == Call::RunDepot => (Where::InDepot, ground.number),
             false => (Where::Elsewhere, ground.number),
         })
         .collect()
@@ -52,6 +55,14 @@ fn grounds(case: &Case) -> Vec<Refusal> {
             add(&mut grounds, store.len() != VARIABLES, 10, 0);
             add(&mut grounds, *start > LAST_TARGET, 11, 0);
             grounds.extend(oracle::code::check(table, code).err());
+            grounds
+        }
+        Case::RunDepot { table, code, start, stores, room, .. } => {
+            let mut grounds = table_grounds(table);
+            add(&mut grounds, depot::bad_length(stores), 10, 0);
+            add(&mut grounds, *start > LAST_TARGET, 11, 0);
+            grounds.extend(oracle::code::check(table, code).err());
+            add(&mut grounds, depot::room_too_small(stores, room), 16, 0);
             grounds
         }
         Case::ReadText { text, room } => {

@@ -1,10 +1,13 @@
-//! What must hold between calls: text written is read back, and compiled code follows its source.
+//! What must hold between calls: text written is read back, compiled code follows its source, and a depot is its crews
+//! run one by one.
 
 use crate::calls::Calls;
 use crate::case::Case;
-use crate::generate::{programs, shuffle, store, texts};
+use crate::generate::{codes, programs, shuffle, store, stores, texts};
 use crate::guarded::Guarded;
 use crate::oracle::answer::{DONE, FINISHED};
+use crate::oracle::depot::ROW;
+use crate::oracle::table::VARIABLES;
 use crate::random::Random;
 
 /// Words, their text, and the same words again; or what went wrong.
@@ -41,4 +44,38 @@ pub fn code_follows_source(calls: &Calls, random: &mut Random) -> Result<(), Str
         return Ok(());
     }
     Err(format!("compiled code does not follow its source: {}", Case::RunCode { table, code, start, store, fuel }))
+}
+
+/// "The whole must equal the crews run one by one": the same stores, and in the room what the runs answered.
+pub fn depot_is_its_crews(calls: &Calls, random: &mut Random) -> Result<(), String> {
+    let (size, crews) = (random.from(1, 60), random.from(1, 6));
+    let tree = programs::statement(random, size);
+    let table = shuffle(random, &tree.table());
+    let (stores, fuel) = (stores(random, crews), random.below(80) as u32);
+    let room = vec![0; ROW * crews];
+
+    let mut guarded = Guarded::new(calls, size);
+    let code = if random.once_in(2) { compiled(&mut guarded, &table) } else { codes::code(random, &table) };
+    let start = if code.is_empty() { 1 } else { code[4 * random.below(code.len() / 4)] };
+    let (answer, together, told) = guarded.run_depot(&table, &code, start, &stores, fuel, &room);
+    let (mut one_by_one, mut rows) = (vec![], vec![]);
+    for store in stores.chunks_exact(VARIABLES) {
+        let (ran, after) = guarded.run_code(&table, &code, start, store, fuel);
+        one_by_one.extend(after);
+        // An answer has 1 and 2 for finished and out of fuel, the room has 0 and 1.
+        rows.extend([ran[0].wrapping_sub(FINISHED), ran[3], ran[4]]);
+    }
+
+    if (answer[0], together, told) == (DONE, one_by_one, rows) && guarded.trespasses().is_empty() {
+        return Ok(());
+    }
+    let case = Case::RunDepot { table, code, start, stores, fuel, room };
+    Err(format!("a depot is not its crews run one by one: {case}"))
+}
+
+/// The code at label 1, by the tested calls.
+fn compiled(guarded: &mut Guarded, table: &[u32]) -> Vec<u32> {
+    let (answer, mut code) = guarded.compile(table, 1, &[0; 4096]);
+    code.truncate(4 * answer[4] as usize);
+    code
 }

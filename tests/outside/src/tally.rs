@@ -1,7 +1,9 @@
 //! How often each answer occurred, and how often two grounds for a refusal competed; and what ought to occur.
 
-use crate::case::{Call, Case};
-use crate::oracle::answer::{Answer, Refusal, DONE, FINISHED, OUT_OF_FUEL, REFUSED};
+use crate::case::{Buffer, Call, Case, Outcome};
+use crate::oracle::answer::{Refusal, DONE, FINISHED, OUT_OF_FUEL, REFUSED};
+use crate::oracle::depot::{MOST_CREWS, ROW};
+use crate::oracle::table::VARIABLES;
 use crate::rivals::{rivals, Where};
 use std::collections::BTreeMap;
 use std::fmt::{self, Display, Formatter};
@@ -11,21 +13,38 @@ type Kind = (Call, u32, u32);
 /// Where the rival stood, the number told, the rival's number.
 type Contest = (Where, u32, u32);
 
+/// The last number of a refusal.
+const LAST_NUMBER: u32 = 16;
+
+/// What some of the depots that are done ought to be.
+const DEPOTS: [&str; 4] = ["no crews", "one crew", "512 crews", "crews finished and crews out of fuel"];
+
 #[derive(Default)]
 pub struct Tally {
     answers: BTreeMap<Kind, usize>,
     contests: BTreeMap<Contest, usize>,
+    depots: [usize; DEPOTS.len()],
 }
 
 impl Tally {
-    pub fn count(&mut self, case: &Case, answer: &Answer) {
-        let [verdict, number, place, ..] = *answer;
+    pub fn count(&mut self, case: &Case, outcome: &Outcome) {
+        let [verdict, number, place, ..] = outcome.answer;
         *self.answers.entry((case.call(), verdict, number)).or_default() += 1;
         if verdict == REFUSED {
             let told = Refusal { number, place: place as usize };
             for (place, rival) in rivals(case, told) {
                 *self.contests.entry((place, number, rival)).or_default() += 1;
             }
+        } else if let Buffer::Depot { stores, room } = &outcome.after {
+            self.count_depot(stores.len() / VARIABLES, room);
+        }
+    }
+
+    fn count_depot(&mut self, crews: usize, room: &[u32]) {
+        let some = |wanted| room.chunks_exact(ROW).take(crews).any(|row| row[0] == wanted);
+        let is = [crews == 0, crews == 1, crews == MOST_CREWS, some(0) && some(1)];
+        for (count, is) in self.depots.iter_mut().zip(is) {
+            *count += usize::from(is);
         }
     }
 
@@ -50,6 +69,9 @@ impl Tally {
                 complaints.push(format!("refusal {told} never competed with {rival} ({})", place_name(place)));
             }
         }
+        for (name, _) in DEPOTS.iter().zip(self.depots).filter(|(_, times)| *times == 0) {
+            complaints.push(format!("no depot was done with {name}"));
+        }
         let expected = expected_answers();
         for kind in self.answers.keys().filter(|kind| !expected.contains(kind)) {
             complaints.push(format!("{} is no answer of that call", describe(kind)));
@@ -59,7 +81,7 @@ impl Tally {
 }
 
 /// "The table check gives 1 to 9; compiling 1 to 9, 11, 12; a source run 1 to 10; a code run 1 to 11 and 13; reading and
-/// writing text 14, 15."
+/// writing text 14, 15." A depot adds 16 to those of a code run.
 fn expected_answers() -> Vec<Kind> {
     let mut expected = Vec::new();
     for call in Call::ALL {
@@ -68,6 +90,7 @@ fn expected_answers() -> Vec<Kind> {
             Call::Compile => (&[DONE], (1..=9).chain(11..=12).collect()),
             Call::RunSource => (&[FINISHED, OUT_OF_FUEL], (1..=10).collect()),
             Call::RunCode => (&[FINISHED, OUT_OF_FUEL], (1..=11).chain([13]).collect()),
+            Call::RunDepot => (&[DONE], (1..=11).chain([13, 16]).collect()),
             Call::ReadText | Call::WriteText => (&[DONE], vec![14, 15]),
         };
         expected.extend(verdicts.iter().map(|&verdict| (call, verdict, 0)));
@@ -96,6 +119,10 @@ fn expected_contests() -> Vec<Contest> {
     pairs(Where::Elsewhere, &[10], &[11, 13]);
     pairs(Where::Elsewhere, &[11], &[12, 13]);
     pairs(Where::Elsewhere, &[14], &[15]);
+    pairs(Where::InDepot, &[1, 2, 3, 4, 5, 6, 7, 8, 9], &[10, 11, 13, 16]);
+    pairs(Where::InDepot, &[10], &[11, 13, 16]);
+    pairs(Where::InDepot, &[11], &[13, 16]);
+    pairs(Where::InDepot, &[13], &[16]);
     expected
 }
 
@@ -114,6 +141,7 @@ fn place_name(place: Where) -> &'static str {
         Where::SameNode => "at one node",
         Where::LaterNode => "at a later node",
         Where::Elsewhere => "elsewhere",
+        Where::InDepot => "in a depot",
     }
 }
 
@@ -121,10 +149,12 @@ impl Display for Tally {
     fn fmt(&self, f: &mut Formatter) -> fmt::Result {
         self.answer_table(f)?;
         writeln!(f, "\nRefusals that competed (told over rival: times)")?;
-        for place in [Where::SameNode, Where::LaterNode, Where::Elsewhere] {
+        for place in [Where::SameNode, Where::LaterNode, Where::Elsewhere, Where::InDepot] {
             self.contest_lines(f, place)?;
         }
-        Ok(())
+        let depots: Vec<String> =
+            DEPOTS.iter().zip(self.depots).map(|(name, times)| format!("{name}: {times}")).collect();
+        writeln!(f, "\nDepots that were done, with {}", depots.join(", "))
     }
 }
 
@@ -132,10 +162,10 @@ impl Tally {
     fn answer_table(&self, f: &mut Formatter) -> fmt::Result {
         let columns: Vec<(u32, u32)> = [(DONE, 0), (FINISHED, 0), (OUT_OF_FUEL, 0)]
             .into_iter()
-            .chain((1..=15).map(|number| (REFUSED, number)))
+            .chain((1..=LAST_NUMBER).map(|number| (REFUSED, number)))
             .collect();
         write!(f, "{:<12}{:>7}{:>9}{:>7}", "", "done", "finished", "fuel")?;
-        (1..=15).try_for_each(|number| write!(f, "{number:>6}"))?;
+        (1..=LAST_NUMBER).try_for_each(|number| write!(f, "{number:>6}"))?;
         writeln!(f)?;
         for call in Call::ALL {
             write!(f, "{:<12}", call.name())?;

@@ -1,4 +1,5 @@
-//! The worked runs of document 01, with their answers as the document gives them. The oracle must give them too.
+//! The worked runs of document 01, with their answers as the document gives them, and depots worked out by hand. The
+//! oracle must give them too.
 
 use crate::case::{Buffer, Case, Outcome};
 use crate::oracle::answer::{done, finished, out_of_fuel, refused, Answer, Refusal};
@@ -52,6 +53,7 @@ pub fn all() -> Vec<Worked> {
     all.extend(empty_branches());
     all.extend(values());
     all.extend(limits());
+    all.extend(depots());
     all
 }
 
@@ -148,6 +150,28 @@ fn limits() -> Vec<Worked> {
     ]
 }
 
+/// A pass of the loop takes four steps, the last test one: from 150 three passes, from 60 one, from 0 none, and from 1000
+/// more than the fuel allows. Each crew has the whole fuel.
+fn depots() -> Vec<Worked> {
+    let crews: &[&[i32]] = &[&[150], &[1000, 7], &[0], &[60, -1]];
+    let fuel_13: &[&[i32]] = &[&[-30, 3], &[820, 10], &[0], &[0, 0]];
+    let fuel_4: &[&[i32]] = &[&[90, 1], &[940, 8], &[0], &[0, 0]];
+    let rows_13 = [0, 5, 13, 1, 2, 13, 0, 5, 1, 0, 5, 5];
+    let rows_4 = [1, 1, 4, 1, 1, 4, 0, 5, 1, 1, 1, 4];
+    let too_many = &[crews[0]; 513];
+    let refusal = |number| refused(Refusal { number, place: 0 });
+    vec![
+        depot("four crews, fuel 13", &LOOP_CODE, 1, crews, 13, &rows_13, done(0, 0), fuel_13),
+        depot("four crews, fuel 4", &LOOP_CODE, 1, crews, 4, &rows_4, done(0, 0), fuel_4),
+        depot("four crews at a label outside", &LOOP_CODE, 7, crews, 0, &[0, 7, 0].repeat(4), done(0, 0), crews),
+        depot("no crews", &LOOP_CODE, 1, &[], 13, &[], done(0, 0), &[]),
+        depot("no crews, code that breaks the rules", &[4, 2, 1, 4], 4, &[], 13, &[], refusal(13), &[]),
+        depot("no crews at 65536", &LOOP_CODE, 65_536, &[], 13, &[], refusal(11), &[]),
+        depot("513 crews", &LOOP_CODE, 1, too_many, 13, &[], refusal(10), too_many),
+        depot("one crew, two words of room", &LOOP_CODE, 1, &crews[..1], 13, &[], refusal(16), &crews[..1]),
+    ]
+}
+
 /// The table of nested sequences of exactly this depth.
 fn chain(depth: usize) -> Vec<u32> {
     let mut tree = skip();
@@ -191,6 +215,31 @@ fn ran(
 ) -> Worked {
     let case = Case::RunCode { table: table.to_vec(), code: code.to_vec(), start, store: store(before), fuel };
     worked(name, case, answer, Buffer::Values(store(after)))
+}
+
+/// The loop's table. The room has two words more than the rows need; they stay as they are.
+#[allow(clippy::too_many_arguments)]
+fn depot(
+    name: &'static str,
+    code: &[u32],
+    start: u32,
+    before: &[&[i32]],
+    fuel: u32,
+    rows: &[u32],
+    answer: Answer,
+    after: &[&[i32]],
+) -> Worked {
+    let stores = |crews: &[&[i32]]| crews.iter().flat_map(|first| store(first)).collect();
+    let room = [rows, &[9, 9]].concat();
+    let case = Case::RunDepot {
+        table: loop_program().table(),
+        code: code.to_vec(),
+        start,
+        stores: stores(before),
+        fuel,
+        room: vec![9; room.len()],
+    };
+    worked(name, case, answer, Buffer::Depot { stores: stores(after), room })
 }
 
 /// A store that begins with these values; the rest are 0.

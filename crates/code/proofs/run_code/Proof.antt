@@ -2,19 +2,20 @@
 use mathlib.Core.Path.{_≡_, sym, _∙_}
 use mathlib.Core.Option.{none}
 use borrow.Author.Needs.{needs}
-use Rattle.rules.proofs.EndedLaws.{ends-refused, ends-unrefused}
+use Rattle.rules.specs.StoreRefusal.{storeRefusal}
+use Rattle.rules.proofs.EndedLaws.{ends-refused}
 use Rattle.code.specs.CodeRun.{codeRunRefusal, codeRun}
 use Rattle.table.proofs.Answer.{answer-done, answer-refused}
-use Rattle.code.proofs.Order.{admitted}
 use Rattle.code.proofs.run_code.Statement.{statement}
 use Rattle.code.proofs.run_code.Tie as tie
 
 abbrev start : tie.After-enum-told → tie.Start
-start c = c .before .before .before .before .before .before
+start c = c .before .before .before .before .before
 
 -- where nothing is refused
 none-refused : (c : tie.After-enum-told)
     → codeRunRefusal (start c .args .table .now) (start c .args .code .now) (start c .args .start) (start c .args .store .now) ≡ none
+unfolding codeRunRefusal storeRefusal
 none-refused c = answer-done _ (sym (c .enum-told .given .1) ∙ c .before .before .admit .ensures)
 
 admit-requires : tie.Need-admit-requires
@@ -26,22 +27,18 @@ enum-known-admitted c = search needs
 enum-told : tie.Need-enum-told
 enum-told c = search needs
 
-run-lent-requires : tie.Need-run-lent-requires
-run-lent-requires c κs = admitted _ _ _ _ (none-refused (c .before))
+run-admitted-requires : tie.Need-run-admitted-requires
+run-admitted-requires c κs = none-refused (c .before)
+
+returns : tie.Need-returns
+unfolding codeRun codeRunRefusal storeRefusal
+returns c = sym (ends-refused _ _ _ _ (answer-refused _ _ (sym (c .before .admitted .given .1) ∙ c .before .before .before .admit .ensures)))
 
 same-length : tie.Need-same-length
 same-length c = search needs
 
-returns : tie.Need-returns
-unfolding codeRun
-returns c = sym (ends-refused _ _ _ _ (answer-refused _ _ (sym (c .before .admitted .given .1) ∙ c .before .before .before .admit .ensures)))
-
-same-length-2 : tie.Need-same-length-2
-same-length-2 c = search needs
-
 returns-2 : tie.Need-returns-2
-unfolding codeRun
-returns-2 c = c .before .run-lent .ensures ∙ sym (ends-unrefused _ _ _ _ (none-refused (c .before .before .before)))
+returns-2 c = c .before .run-admitted .ensures
 
 pub run-code-spec : {M : Type 1} → statement M
 run-code-spec =
@@ -50,8 +47,7 @@ run-code-spec =
     admit-requires
     enum-known-admitted
     enum-told
-    run-lent-requires
-    same-length
+    run-admitted-requires
     returns
-    same-length-2
+    same-length
     returns-2)

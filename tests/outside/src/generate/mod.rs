@@ -24,6 +24,11 @@ pub fn store(random: &mut Random) -> Vec<i32> {
     (0..VARIABLES).map(|_| if flat { 0 } else { value(random) }).collect()
 }
 
+/// The stores of so many crews, back to back.
+pub fn stores(random: &mut Random, crews: usize) -> Vec<i32> {
+    (0..crews).flat_map(|_| store(random)).collect()
+}
+
 pub fn store_of_wrong_length(random: &mut Random) -> Vec<i32> {
     let length = random.pick(&[0, 1, 31, 33, 64]);
     (0..length).map(|_| value(random)).collect()

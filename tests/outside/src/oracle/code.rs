@@ -1,8 +1,8 @@
 //! "Code and its steps": its rules, refusal 13, and its run.
 
 use super::answer::{finished, out_of_fuel, refuse, Answer, Refusal};
-use super::expressions::{arithmetic, boolean, store};
-use super::table::{accepted, class_at, Class, VARIABLES};
+use super::expressions::{arithmetic, boolean, store, Store};
+use super::table::{accepted, class_at, Class, Node, VARIABLES};
 
 pub const ASSIGN: u32 = 1;
 pub const GOTO: u32 = 2;
@@ -12,7 +12,7 @@ pub const MOST_INSTRUCTIONS: usize = 1024;
 pub const LAST_LABEL: u32 = 65_534;
 pub const LAST_TARGET: u32 = 65_535;
 
-struct Instruction {
+pub struct Instruction {
     label: u32,
     operation: Operation,
 }
@@ -30,32 +30,49 @@ pub fn run(table: &[u32], code: &[u32], start: u32, values: &mut [i32], fuel: u3
         return refuse(11, 0);
     }
     let code = decode(table, code)?;
-    let positions = positions(&code);
+    Ok(Program::new(nodes, code).run(start, store, fuel))
+}
 
-    let mut label = start;
-    let mut steps = 0;
-    loop {
-        // "A label that no instruction bears is a finish, tested before fuel."
-        let Some(&Some(position)) = positions.get(label as usize) else {
-            return Ok(finished(label, steps));
-        };
-        if steps == fuel {
-            return Ok(out_of_fuel(label, steps));
-        }
-        label = match code[position as usize].operation {
-            Operation::Assign { variable, expression } => {
-                store[variable] = arithmetic(&nodes, expression, store);
-                label + 1
+/// The nodes of an accepted table and code over them that keeps the rules: what all stores that are run have in common.
+pub struct Program {
+    nodes: Vec<Node>,
+    code: Vec<Instruction>,
+    /// For each label up to the last one, the position of the instruction that bears it.
+    positions: Vec<Option<u16>>,
+}
+
+impl Program {
+    pub fn new(nodes: Vec<Node>, code: Vec<Instruction>) -> Self {
+        let positions = positions(&code);
+        Program { nodes, code, positions }
+    }
+
+    /// Finished or out of fuel.
+    pub fn run(&self, start: u32, store: &mut Store, fuel: u32) -> Answer {
+        let mut label = start;
+        let mut steps = 0;
+        loop {
+            // "A label that no instruction bears is a finish, tested before fuel."
+            let Some(&Some(position)) = self.positions.get(label as usize) else {
+                return finished(label, steps);
+            };
+            if steps == fuel {
+                return out_of_fuel(label, steps);
             }
-            Operation::Goto { target } => target,
-            Operation::IfNot { test, .. } if boolean(&nodes, test, store) => label + 1,
-            Operation::IfNot { target, .. } => target,
-        };
-        steps += 1;
+            label = match self.code[position as usize].operation {
+                Operation::Assign { variable, expression } => {
+                    store[variable] = arithmetic(&self.nodes, expression, store);
+                    label + 1
+                }
+                Operation::Goto { target } => target,
+                Operation::IfNot { test, .. } if boolean(&self.nodes, test, store) => label + 1,
+                Operation::IfNot { target, .. } => target,
+            };
+            steps += 1;
+        }
     }
 }
 
-/// For each label up to the last one, the position of the instruction that bears it.
 fn positions(code: &[Instruction]) -> Vec<Option<u16>> {
     let labels = code.last().map_or(0, |last| last.label as usize + 1);
     let mut positions = vec![None; labels];
@@ -71,7 +88,7 @@ pub fn check(table: &[u32], code: &[u32]) -> Result<(), Refusal> {
 
 /// The instructions of `code` over the nodes of `table`. After the word count, the first instruction that breaks any
 /// rule is the place, counted from 0.
-fn decode(table: &[u32], code: &[u32]) -> Result<Vec<Instruction>, Refusal> {
+pub fn decode(table: &[u32], code: &[u32]) -> Result<Vec<Instruction>, Refusal> {
     if !code.len().is_multiple_of(4) || code.len() > 4 * MOST_INSTRUCTIONS {
         return refuse(13, 0);
     }

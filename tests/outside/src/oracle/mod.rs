@@ -1,12 +1,13 @@
-//! Document 01 in plain Rust, written from its text alone.
+//! Document 01 and request A1 in plain Rust, written from their text alone.
 //!
-//! The six calls take what the calls of the C boundary take and give the eight words of the answer. A buffer that the
+//! The seven calls take what the calls of the C boundary take and give the eight words of the answer. A buffer that the
 //! call may alter comes as `&mut`; after a refusal it is as it was. Nothing here is tuned: it says what the right answer
 //! is, and the benchmark sets the proved library beside it.
 
 pub mod answer;
 pub mod code;
 pub mod compile;
+pub mod depot;
 pub mod expressions;
 pub mod source;
 pub mod table;
@@ -36,6 +37,12 @@ pub fn run_source(table: &[u32], store: &mut [i32], fuel: u32) -> Answer {
 /// A code run from `start`: finished or out of fuel with label and steps, or refused 1 to 11, 13.
 pub fn run_code(table: &[u32], code: &[u32], start: u32, store: &mut [i32], fuel: u32) -> Answer {
     code::run(table, code, start, store, fuel).unwrap_or_else(refused)
+}
+
+/// A code run from `start` for each crew, the whole fuel for each; `room` gets verdict, label and steps of every crew:
+/// done, or refused 1 to 11, 13, 16.
+pub fn run_depot(table: &[u32], code: &[u32], start: u32, stores: &mut [i32], fuel: u32, room: &mut [u32]) -> Answer {
+    depot::run(table, code, start, stores, fuel, room).unwrap_or_else(refused)
 }
 
 /// Text to words: done with the number of words, or refused 14, 15.

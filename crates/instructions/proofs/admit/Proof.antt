@@ -1,11 +1,12 @@
 -- `admit` meets its contract: each way out is the first refusal in 01's order.
 use mathlib.Core.Path.{sym, _∙_}
+use native.Mathlib.Omega.{arith}
 use borrow.Author.Needs.{needs}
 use Rattle.rules.specs.Table.{Accepted}
 use Rattle.table.proofs.Answer.{accepted, refused}
-use Rattle.code.proofs.Order.{refused-table, refused-store, refused-start, code-decides}
-use Rattle.code.proofs.admit.Statement.{statement}
-use Rattle.code.proofs.admit.Tie as tie
+use Rattle.instructions.proofs.Order.{refused-table, refused-store, refused-start, code-decides}
+use Rattle.instructions.proofs.admit.Statement.{statement}
+use Rattle.instructions.proofs.admit.Tie as tie
 
 is-accepted : (c : tie.After-enum-told) → Accepted (c .before .before .before .before .before .args .table .now)
 is-accepted c = accepted _ (c .before .before .check .ensures) (c .enum-told .given .1)
@@ -34,7 +35,7 @@ refused-requires-2 c κs = search needs
 returns-3 : tie.Need-returns-3
 returns-3 c =
     let test = c .before in
-    c .refused2 .ensures ∙ sym (refused-start _ _ _ _ (is-accepted (test .before .before)) (test .before .if1 .left) (test .if2 .taken))
+    c .refused2 .ensures ∙ sym (refused-start _ _ _ _ (is-accepted (test .before .before)) (test .before .if1 .left) (omega arith))
 
 check-code-requires : tie.Need-check-code-requires
 check-code-requires c κs = search needs
@@ -42,7 +43,7 @@ check-code-requires c κs = search needs
 returns-4 : tie.Need-returns-4
 returns-4 c =
     let tested = c .before in
-    c .check-code .ensures ∙ sym (code-decides _ _ _ _ (is-accepted (tested .before .before)) (tested .before .if1 .left) (tested .if2 .left))
+    c .check-code .ensures ∙ sym (code-decides _ _ _ _ (is-accepted (tested .before .before)) (tested .before .if1 .left) (omega arith))
 
 pub admit-spec : {M : Type 1} → statement M
 admit-spec =

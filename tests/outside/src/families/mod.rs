@@ -1,5 +1,7 @@
 //! What is tried: each family makes some random cases on one theme.
 
+mod depots;
+
 use crate::case::Case;
 use crate::generate::*;
 use crate::oracle;
@@ -33,6 +35,16 @@ pub const ROUND: &[Family] = &[
     several_bad_inputs,
     several_bad_inputs,
     several_bad_inputs,
+    depots::depots,
+    depots::depots,
+    depots::damaged_depots,
+    depots::damaged_depots,
+    depots::several_bad_inputs,
+    depots::several_bad_inputs,
+    depots::several_bad_inputs,
+    depots::several_bad_inputs,
+    depots::several_bad_inputs,
+    depots::several_bad_inputs,
     reading,
     reading,
     writing,
@@ -163,10 +175,14 @@ fn compiled_runs(random: &mut Random, table: &[u32]) -> Vec<Case> {
 fn code_runs(random: &mut Random, table: &[u32], code: &[u32], start: u32) -> Vec<Case> {
     let store = store(random);
     let trial = oracle::run_code(table, code, start, &mut store.clone(), TRIAL_FUEL);
-    let can_loop = code.chunks_exact(4).any(|frame| frame[1] != ASSIGN && frame[3] <= frame[0]);
     let (table, code) = (table.to_vec(), code.to_vec());
     let run = |fuel| Case::RunCode { table: table.clone(), code: code.clone(), start, store: store.clone(), fuel };
-    fuels(random, trial, can_loop).into_iter().map(run).collect()
+    fuels(random, trial, can_loop(&code)).into_iter().map(run).collect()
+}
+
+/// Some instruction jumps back.
+fn can_loop(code: &[u32]) -> bool {
+    code.chunks_exact(4).any(|frame| frame[1] != ASSIGN && frame[3] <= frame[0])
 }
 
 /// A label of the code, or one beside it, or one at the limit.
@@ -182,6 +198,15 @@ fn any_start(random: &mut Random, code: &[u32]) -> u32 {
     }
 }
 
+/// Compiled at label 1, or hand-written.
+fn some_code(random: &mut Random, table: &[u32]) -> Vec<u32> {
+    if random.once_in(2) {
+        compiled(table, 1)
+    } else {
+        codes::code(random, table)
+    }
+}
+
 fn hand_written_code(random: &mut Random) -> Vec<Case> {
     let table = small_table(random);
     let code = codes::code(random, &table);
@@ -192,7 +217,7 @@ fn hand_written_code(random: &mut Random) -> Vec<Case> {
 /// Also the compiled code with faults.
 fn damaged_code(random: &mut Random) -> Vec<Case> {
     let table = small_table(random);
-    let mut code = if random.once_in(2) { compiled(&table, 1) } else { codes::code(random, &table) };
+    let mut code = some_code(random, &table);
     codes::damage(random, &table, &mut code);
     // The rules may happen to be kept and the code to loop, so the fuel is small.
     let fuel = random.below(50) as u32;
@@ -213,22 +238,36 @@ fn damaged_tables(random: &mut Random) -> Vec<Case> {
     vec![Case::Check { table }, other]
 }
 
-/// Any of table, store, start label, code and room may be bad, so that refusals of different inputs compete.
-fn several_bad_inputs(random: &mut Random) -> Vec<Case> {
+/// A table and code over it, of which either or both may be bad.
+fn bad_table_and_code(random: &mut Random) -> (Vec<u32>, Vec<u32>) {
     let mut table = if random.once_in(8) {
         let depth = random.from(256, 258);
         programs::deep(random, Class::Statement, depth).table()
     } else {
         small_table(random)
     };
-    let mut code = if random.once_in(2) { compiled(&table, 1) } else { codes::code(random, &table) };
+    let mut code = some_code(random, &table);
     if random.once_in(2) {
         codes::damage(random, &table, &mut code);
     }
     if random.once_in(2) {
         damage::damage(random, &mut table);
     }
-    let start = if random.once_in(2) { random.pick(&[65_536, 65_537, u32::MAX]) } else { 1 };
+    (table, code)
+}
+
+fn start_perhaps_over(random: &mut Random) -> u32 {
+    if random.once_in(2) {
+        random.pick(&[65_536, 65_537, u32::MAX])
+    } else {
+        1
+    }
+}
+
+/// Any of table, store, start label, code and room may be bad, so that refusals of different inputs compete.
+fn several_bad_inputs(random: &mut Random) -> Vec<Case> {
+    let (table, code) = bad_table_and_code(random);
+    let start = start_perhaps_over(random);
     let store = if random.once_in(2) { store_of_wrong_length(random) } else { store(random) };
     let length = random.below(40);
     let fuel = random.below(50) as u32;
@@ -239,7 +278,7 @@ fn several_bad_inputs(random: &mut Random) -> Vec<Case> {
     ]
 }
 
-/// The loop of document 01 and a jump to itself, with counts beyond 16 bits. Tried once.
+/// The loop of document 01, also in a depot, and a jump to itself, with counts beyond 16 bits. Tried once.
 pub fn long_runs() -> Vec<Case> {
     let table = loop_program().table();
     let mut store = vec![0; 32];
@@ -252,7 +291,11 @@ pub fn long_runs() -> Vec<Case> {
         let code = LOOP_CODE.to_vec();
         cases.push(Case::RunCode { table: table.clone(), code, start: 1, store: store.clone(), fuel });
     }
-    cases.push(Case::RunCode { table, code: vec![4, 2, 0, 4], start: 4, store, fuel: 1_000_003 });
+    let goto = vec![4, 2, 0, 4];
+    cases.push(Case::RunCode { table: table.clone(), code: goto, start: 4, store: store.clone(), fuel: 1_000_003 });
+    // The first crew is out of fuel at its last test, the second finishes.
+    let stores = [store, vec![0; 32]].concat();
+    cases.push(Case::RunDepot { table, code: LOOP_CODE.to_vec(), start: 1, stores, fuel: steps - 1, room: vec![9; 6] });
     cases
 }
 

@@ -1,0 +1,2 @@
+-- What is refused before a run of code.
+pub mod Admission
