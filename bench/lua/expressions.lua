@@ -1,4 +1,4 @@
--- The loop of `expressions` in src/workloads.rs. No value is negative, so // and % are its quotient and remainder.
+-- The loop of `expressions` in src/workloads.rs. Lua's // and % round down, as our quotient and remainder do.
 -- Prints the least seconds of 60 rounds, then the variables.
 local from, least = tonumber(arg[1]), math.huge
 local v0, v1, v2

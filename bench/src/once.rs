@@ -28,7 +28,8 @@ fn counted(call: impl FnOnce() -> Answer) -> Answer {
 }
 
 fn run(ours: Option<&Ours>, program: &str, engine: &str) -> Answer {
-    let index = ["a", "b", "c", "d"].iter().position(|name| *name == program).expect("the program is a, b, c or d");
+    let index =
+        ["a", "b", "c", "d", "e"].iter().position(|name| *name == program).expect("the program is one of a to e");
     let program = &programs()[index];
     let (table, code, mut store) = (&program.table, &program.code, first_store(program));
     match (ours, engine) {

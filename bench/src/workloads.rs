@@ -1,4 +1,4 @@
-//! What is run: three programs, hand-written code, depots of them, and the inputs for checking, compiling and text.
+//! What is run: four programs, hand-written code, depots of them, and the inputs for checking, compiling and text.
 
 use outside::oracle;
 use outside::trees::*;
@@ -22,6 +22,7 @@ pub fn programs() -> Vec<Program> {
         choosing(10_000),
         compiled("a dozen ifs with empty branches", empty_branches(), 4_000, "ifs.lua"),
         gaps(),
+        compiled("quotient and remainder before and after midnight", midnight(), 20_000, "midnight.lua"),
     ]
 }
 
@@ -84,7 +85,7 @@ fn down_to_zero(mut body: Vec<Tree>) -> Tree {
     while_do(comparison(LESS, number(0), variable(0)), sequence_of(body))
 }
 
-/// Values stay from 0 to 10006, so that Lua's quotients and remainders are ours.
+/// Values stay from 0 to 10006, so that it measures the same under any rule of rounding.
 fn expressions() -> Tree {
     let by = |kind, left, right: i32| operation(kind, left, number(right));
     // v1 := (choose v0 mod 3 = 0: v1 + v0 / 7, else v1 * 3 + v0 mod 5) mod 10007
@@ -114,6 +115,15 @@ fn expressions() -> Tree {
         ),
     );
     down_to_zero(vec![first, second])
+}
+
+/// Minutes from 10,000 after midnight to 9,999 before: half of the dividends are negative, and so is one of the divisors.
+fn midnight() -> Tree {
+    let add =
+        |to, kind, right: i32| assign(to, operation(SUM, variable(to), operation(kind, variable(3), number(right))));
+    // v3 := v0 - 10000; v1 := v1 + v3 / 60; v2 := v2 + v3 mod -60
+    let minute = assign(3, operation(DIFFERENCE, variable(0), number(10_000)));
+    down_to_zero(vec![minute, add(1, QUOTIENT, 60), add(2, REMAINDER, -60)])
 }
 
 /// For i from 1 to 12: "if v0 mod (i + 1) = 0", with an empty then branch for odd i and an empty else branch for even i;

@@ -140,6 +140,26 @@ static void running_source(void)
     store_holds("source: refused, store as it was", 150, 0);
 }
 
+/* v1 := v0 by b, of this kind: a quotient is 6, a remainder 7 */
+static void divides(const char *what, uint32_t kind, int32_t a, int32_t b, int32_t result)
+{
+    const uint32_t table[16] = { 2, 0, 0, 0, 1, (uint32_t)b, 0, 0, kind, 0, 1, 0, 33, 1, 2, 0 };
+
+    stale(); fresh_store(a); rill_run_source(table, 16, store, 32, 1, answer);
+    tells(what, RILL_FINISHED, 0, 0, 0, 1);
+    store_holds(what, a, result);
+}
+
+static void dividing(void)
+{
+    divides("-30 by 60", 6, -30, 60, -1);
+    divides("-30 by 60, remainder", 7, -30, 60, 30);
+    divides("30 by -60", 6, 30, -60, -1);
+    divides("30 by -60, remainder", 7, 30, -60, -30);
+    divides("7 by 0", 6, 7, 0, 0);
+    divides("7 by 0, remainder", 7, 7, 0, 7);
+}
+
 /* the example in the header */
 static void header_example(void)
 {
@@ -274,6 +294,7 @@ int main(void)
     checking();
     compiling();
     running_source();
+    dividing();
     running_code();
     running_depots();
     header_example();

@@ -116,13 +116,16 @@ cases =
     ∷ (ran empty-else empty-else-code 10 (store (pos 0) (pos 0)) 1 gives finished-at 13 1 (store (pos 0) (pos 0)))
     -- "4: goto 4", begun at 4, fuel 9: out of fuel at 4, 9 steps
     ∷ (ran skips (frame 4 2 0 4) 4 (store (pos 0) (pos 0)) 9 gives out-of-fuel-at 4 9 (store (pos 0) (pos 0)))
-    -- 2147483647 + 1 = -2147483648; 65536 * 65536 = 0; -30 by 60 is 0, remainder -30; 7 by 0 is 0, remainder 7
+    -- 2147483647 + 1 = -2147483648; 65536 * 65536 = 0; 7 by 0 is 0, remainder 7; and as A2 has it,
+    -- -30 by 60 is -1, remainder 30; 30 by -60 is -1, remainder -30
     ∷ (value (sum (pos 2147483647) (pos 1)) gives value (negsuc 2147483647))
     ∷ (value (product (pos 65536) (pos 65536)) gives value (pos 0))
-    ∷ (value (quotient (negsuc 29) (pos 60)) gives value (pos 0))
-    ∷ (value (remainder (negsuc 29) (pos 60)) gives value (negsuc 29))
     ∷ (value (quotient (pos 7) (pos 0)) gives value (pos 0))
     ∷ (value (remainder (pos 7) (pos 0)) gives value (pos 7))
+    ∷ (value (quotient (negsuc 29) (pos 60)) gives value (negsuc 0))
+    ∷ (value (remainder (negsuc 29) (pos 60)) gives value (pos 30))
+    ∷ (value (quotient (pos 30) (negsuc 59)) gives value (negsuc 0))
+    ∷ (value (remainder (pos 30) (negsuc 59)) gives value (negsuc 29))
     ∷ []
 
 pub worked-runs : map (λ (r : Run). r .asked) cases ≡ map (λ (r : Run). r .answer) cases

@@ -1,6 +1,8 @@
 // Signed 32-bit values that wrap (document 01, "Values").
 ghost use mathlib.Core.Path.{_≡_};
 ghost use Prim.Native.Nat.{_*_, _%_};
+ghost use lib.IntN.{pos};
+ghost use lib.Signed.{_<ℤ_};
 ghost use Rattle.rules.specs.Value.{word, value, sum, difference, product, quotient, remainder};
 
 // The two's complement word of a value.
@@ -50,16 +52,39 @@ pub fn mul(a: i32, b: i32) -> i32
     of_word(wrapping_mul(to_word(a), to_word(b)))
 }
 
-// -2147483648 by -1 has no machine quotient, so the divisor -1 negates.
-pub fn div(a: i32, b: i32) -> i32
+// The machine drops a fraction towards zero. Between unlike signs that is upwards: there the dividend goes one nearer to zero first, and the quotient
+// one down.
+fn by_positive(a: i32, b: i32) -> i32
+    requires { ⌜ pos 0 <ℤ b ⌝ }
     ensures { λ r. ⌜ r ≡ quotient a b ⌝ }
 {
-    if b == 0 {
-        0
+    if a < 0 { (a + 1) / b - 1 } else { a / b }
+}
+
+// -2147483648 by -1 has no machine quotient, so the divisor -1 negates.
+fn by_negative(a: i32, b: i32) -> i32
+    requires { ⌜ b <ℤ pos 0 ⌝ }
+    ensures { λ r. ⌜ r ≡ quotient a b ⌝ }
+{
+    if a > 0 {
+        (a - 1) / b - 1
     } else if b == -1 {
         sub(0, a)
     } else {
         a / b
+    }
+}
+
+// The sign goes first, so that by a positive divisor neither 0 nor -1 has to be looked for.
+pub fn div(a: i32, b: i32) -> i32
+    ensures { λ r. ⌜ r ≡ quotient a b ⌝ }
+{
+    if b > 0 {
+        by_positive(a, b)
+    } else if b < 0 {
+        by_negative(a, b)
+    } else {
+        0
     }
 }
 

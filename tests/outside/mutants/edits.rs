@@ -101,22 +101,40 @@ pub const EDITS: &[Edit] = &[
     },
     // Values.
     Edit {
-        says: "the remainder has the divisor's sign",
+        says: "the remainder has the dividend's sign",
         file: "values.rs",
         from: "    difference(a, product(quotient(a, b), b))",
-        to: "    let towards_zero = difference(a, product(quotient(a, b), b));
-    if b != 0 && towards_zero != 0 && (towards_zero < 0) != (b < 0) {
-        sum(towards_zero, b)
-    } else {
-        towards_zero
-    }",
+        to: "    if b == 0 { a } else { a.wrapping_rem(b) }",
     },
     Edit {
-        says: "the quotient is rounded down",
+        says: "the quotient drops its fraction towards zero",
         file: "values.rs",
-        from: "        a.wrapping_div(b)",
-        to: "        let quotient = a.wrapping_div(b);
-        quotient.wrapping_sub(i32::from(a.wrapping_rem(b) != 0 && (a < 0) != (b < 0)))",
+        from: "        towards_zero - 1",
+        to: "        towards_zero",
+    },
+    Edit {
+        says: "the quotient is rounded down for a negative dividend, whatever the divisor",
+        file: "values.rs",
+        from: "(a < 0) != (b < 0)",
+        to: "a < 0",
+    },
+    Edit {
+        says: "the quotient is rounded down for a negative dividend only",
+        file: "values.rs",
+        from: "(a < 0) != (b < 0)",
+        to: "a < 0 && b > 0",
+    },
+    Edit {
+        says: "the quotient is one less without a fraction too",
+        file: "values.rs",
+        from: "fraction && (a < 0) != (b < 0)",
+        to: "(a < 0) != (b < 0)",
+    },
+    Edit {
+        says: "the quotient by zero is -1 for a negative dividend",
+        file: "values.rs",
+        from: "        return 0;",
+        to: "        return a.signum().min(0);",
     },
     Edit {
         says: "-2147483648 by -1 is 2147483647",
@@ -128,7 +146,7 @@ pub const EDITS: &[Edit] = &[
         says: "the remainder by zero is 0",
         file: "values.rs",
         from: "    difference(a, product(quotient(a, b), b))",
-        to: "    if b == 0 { 0 } else { a.wrapping_rem(b) }",
+        to: "    if b == 0 { 0 } else { difference(a, product(quotient(a, b), b)) }",
     },
     Edit {
         says: "sums stop at the limits",

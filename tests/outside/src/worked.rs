@@ -128,8 +128,10 @@ fn values() -> Vec<Worked> {
     vec![
         value("2147483647 + 1", SUM, 2147483647, 1, -2147483648),
         value("65536 * 65536", PRODUCT, 65536, 65536, 0),
-        value("-30 by 60", QUOTIENT, -30, 60, 0),
-        value("-30 by 60, remainder", REMAINDER, -30, 60, -30),
+        value("-30 by 60", QUOTIENT, -30, 60, -1),
+        value("-30 by 60, remainder", REMAINDER, -30, 60, 30),
+        value("30 by -60", QUOTIENT, 30, -60, -1),
+        value("30 by -60, remainder", REMAINDER, 30, -60, -30),
         value("7 by 0", QUOTIENT, 7, 0, 0),
         value("7 by 0, remainder", REMAINDER, 7, 0, 7),
         value("-2147483648 by -1", QUOTIENT, -2147483648, -1, -2147483648),

@@ -12,12 +12,17 @@ pub fn product(a: i32, b: i32) -> i32 {
     a.wrapping_mul(b)
 }
 
-/// Towards zero; by zero it is 0; -2147483648 by -1 wraps to itself.
+/// "The greatest whole number not above the exact one" (request A2); by zero it is 0; -2147483648 by -1 wraps to itself.
 pub fn quotient(a: i32, b: i32) -> i32 {
     if b == 0 {
-        0
+        return 0;
+    }
+    let towards_zero = a.wrapping_div(b);
+    let fraction = a.wrapping_rem(b) != 0;
+    if fraction && (a < 0) != (b < 0) {
+        towards_zero - 1
     } else {
-        a.wrapping_div(b)
+        towards_zero
     }
 }
 
