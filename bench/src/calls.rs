@@ -2,7 +2,7 @@
 
 use crate::measure::{columns, side_by_side, timed};
 use crate::ours::Ours;
-use crate::workloads::table_of_1000_nodes;
+use crate::workloads::{deepest_table_of_1000_nodes, table_of_1000_nodes};
 use outside::oracle;
 use outside::oracle::answer::{Answer, DONE};
 use std::hint::black_box;
@@ -12,7 +12,7 @@ use std::time::Duration;
 const CALLS: u64 = 20;
 
 pub fn calls(ours: &Ours) {
-    let table = table_of_1000_nodes();
+    let (table, deepest) = (table_of_1000_nodes(), deepest_table_of_1000_nodes());
     let mut text = vec![1; 33 * 1000];
     oracle::write_text(&table, &mut text);
     // Each side has its own rooms.
@@ -24,6 +24,9 @@ pub fn calls(ours: &Ours) {
     let row = |name, pair| println!("| {name} | {} |", columns(pair));
     row("check of 1,000 nodes", {
         side_by_side(CALLS, || repeat(|| ours.check(&table)), || repeat(|| oracle::check(&table)))
+    });
+    row("check of 1,000 nodes, 256 deep", {
+        side_by_side(CALLS, || repeat(|| ours.check(&deepest)), || repeat(|| oracle::check(&deepest)))
     });
     row("compilation of 1,000 nodes", {
         side_by_side(

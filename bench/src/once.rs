@@ -3,7 +3,7 @@
 
 use crate::ours::Ours;
 use crate::runs::first_store;
-use crate::workloads::{depots, programs, table_of_1000_nodes, CREWS};
+use crate::workloads::{deepest_table_of_1000_nodes, depots, programs, table_of_1000_nodes, CREWS};
 use outside::oracle;
 use outside::oracle::answer::{Answer, REFUSED};
 use std::hint::black_box;
@@ -13,11 +13,11 @@ pub fn once(ours: &Ours, side: &str, row: &str) {
     let ours = (side == "ours").then_some(ours);
     match row.split_once('-') {
         Some(("depot", row)) => println!("{}", depot(ours, row)),
-        Some((program, engine)) => println!("{}", run(ours, program, engine)[4]),
-        None => {
+        None | Some(("check", _)) => {
             call(ours, row);
             println!("1");
         }
+        Some((program, engine)) => println!("{}", run(ours, program, engine)[4]),
     }
 }
 
@@ -71,19 +71,21 @@ fn depot(ours: Option<&Ours>, row: &str) -> usize {
 }
 
 fn call(ours: Option<&Ours>, row: &str) -> Answer {
-    let table = table_of_1000_nodes();
+    let (table, deepest) = (table_of_1000_nodes(), deepest_table_of_1000_nodes());
     let mut text = vec![1; 33 * 1000];
     oracle::write_text(&table, &mut text);
     let (mut words, mut bytes) = (vec![1; 4096], vec![1; 33 * 1024]);
     match (ours, row) {
         (Some(ours), "check") => counted(|| ours.check(&table)),
+        (Some(ours), "check-deep") => counted(|| ours.check(&deepest)),
         (Some(ours), "compile") => counted(|| ours.compile(&table, 1, &mut words)),
         (Some(ours), "read") => counted(|| ours.read_text(&text, &mut words)),
         (Some(ours), "write") => counted(|| ours.write_text(&table, &mut bytes)),
         (None, "check") => counted(|| oracle::check(&table)),
+        (None, "check-deep") => counted(|| oracle::check(&deepest)),
         (None, "compile") => counted(|| oracle::compile(&table, 1, &mut words)),
         (None, "read") => counted(|| oracle::read_text(&text, &mut words)),
         (None, "write") => counted(|| oracle::write_text(&table, &mut bytes)),
-        _ => panic!("the row is a run, as a-code, a depot, as depot-a, or check, compile, read or write"),
+        _ => panic!("the row is a run, as a-code, a depot, as depot-a, or check, check-deep, compile, read or write"),
     }
 }

@@ -1,6 +1,7 @@
 //! What is run: four programs, hand-written code, depots of them, and the inputs for checking, compiling and text.
 
 use outside::oracle;
+use outside::oracle::table::{depth, MOST_DEPTH};
 use outside::trees::*;
 use outside::worked::loop_program;
 
@@ -167,6 +168,18 @@ pub fn table_of_1000_nodes() -> Vec<u32> {
     pieces.extend((0..4).map(|_| skip()));
     let table = sequence_of(pieces).table();
     assert_eq!(table.len(), 4 * 1000);
+    table
+}
+
+/// A program of exactly 1,000 nodes, as deep as may be: 255 assigns, 118 of them with a sum, in sequences one under the other.
+pub fn deepest_table_of_1000_nodes() -> Vec<u32> {
+    let piece = |i: u32| match i {
+        0..118 => assign(i % 32, operation(SUM, variable(i % 32), number(1))),
+        _ => assign(i % 32, number(1)),
+    };
+    let tree = (0..255).map(piece).rev().reduce(|rest, piece| sequence(piece, rest)).unwrap();
+    let table = tree.table();
+    assert!(table.len() == 4 * 1000 && depth(&table) == MOST_DEPTH);
     table
 }
 

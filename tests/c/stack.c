@@ -1,5 +1,6 @@
 // The deepest stack of each call, in bytes: each runs on a painted stack of its own, on the deepest accepted tables and on hostile ones.
-// What an empty call needs is taken off. Prints one line a call and table; docs/LIMITS.md has the greatest.
+// What an empty call needs is taken off. Prints one line a call and table; docs/LIMITS.md has the greatest. Fails where a check needs
+// more than CHECK_MOST: older terminals have little stack.
 #include "rillgiggle.h"
 
 #include <pthread.h>
@@ -8,7 +9,7 @@
 #include <stdlib.h>
 #include <string.h>
 
-enum { STACK = 1 << 20, PAINT = 0xA5, NODES = 1024 };
+enum { STACK = 1 << 20, PAINT = 0xA5, NODES = 1024, CHECK_MOST = 1100 };
 
 static uint32_t table[4 * NODES + 4], code[4 * NODES], words[4 * NODES];
 static size_t table_words, code_words;
@@ -69,6 +70,11 @@ static void deep(int depth, uint32_t first, uint32_t second, int word) {
     }
 }
 
+// A full table of one node again and again: accepted nowhere.
+static void full(uint32_t kind) {
+    while (table_words < 4 * NODES) leaf(kind);
+}
+
 static void nothing(void) {}
 static void check(void) { rill_check(table, table_words, answer); }
 static void compile(void) {
@@ -104,6 +110,8 @@ static size_t depth_of(void (*f)(void)) {
     return STACK - i;
 }
 
+static int too_deep;
+
 static void measure(const char *name) {
     static const struct {
         const char *name;
@@ -113,7 +121,9 @@ static void measure(const char *name) {
     size_t base = depth_of(nothing);
     for (size_t i = 0; i < sizeof calls / sizeof *calls; i++) {
         size_t deep = depth_of(calls[i].f);
-        printf("%-16s %-40s %6zu bytes, verdict %u number %u\n", calls[i].name, name, deep > base ? deep - base : 0, answer[0], answer[1]);
+        size_t bytes = deep > base ? deep - base : 0;
+        printf("%-16s %-40s %6zu bytes, verdict %u number %u\n", calls[i].name, name, bytes, answer[0], answer[1]);
+        too_deep |= calls[i].f == check && bytes > CHECK_MOST;
     }
     table_words = 0;
 }
@@ -145,5 +155,11 @@ int main(void) {
             measure(name);
         }
     }
-    return 0;
+    full(SKIP);
+    measure("1,024 skips");
+    full(NUMBER);
+    measure("1,024 numbers");
+    full(0);
+    measure("1,024 nodes of no kind");
+    return too_deep;
 }

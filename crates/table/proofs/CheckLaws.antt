@@ -5,7 +5,6 @@ use mathlib.Core.List.{List}
 use mathlib.Core.Option.{none, some}
 use Prim.Native.Nat.{ℕ, _/_, _<_, _≤_, min}
 use native.Mathlib.Omega.{arith}
-use lib.ListN.{getD}
 use borrow.Author.Tests.{eq-eqb, ne-eqb, lt-ltb, le-ltb}
 use Rattle.rules.specs.Lists.{joined}
 use Rattle.rules.specs.Refusal.{refusal, fine, refuse, refuseLowest, _orElse_}
@@ -16,7 +15,8 @@ use Rattle.rules.specs.declared.Checked.{Checked}
 use Rattle.rules.proofs.ListLaws.{some-orElse, some-refuseLowest, none-refuseLowest, refuseLowest-none}
 use Rattle.rules.proofs.TableLaws.{fine-once}
 use Rattle.table.specs.Checking.{answer, checking}
-use Rattle.table.specs.inside.Steps.{rowCode, marksOf, treeRefusal, Sound}
+use Rattle.table.specs.inside.Sets.{Marks, named, marksOf}
+use Rattle.table.specs.inside.Steps.{rowCode, treeRefusal, Sound}
 use Rattle.table.proofs.Answer.{answer-done, answer-refused}
 use Rattle.table.proofs.MarkLaws.{marks-say}
 use Rattle.table.proofs.WordLaws.{class-here}
@@ -50,26 +50,26 @@ module _ (t : List ℕ) (row : ℕ) (read : row ≡ rowCode (rowAt t (root t))) 
   unfolding treeRefusal answer _orElse_ refuse
   refused-7 ne = rw (ne-eqb (rank (rowAt t (root t) .class)) 2 (λ e. ne (sym (class-here t (root t) row read) ∙ e)))
 
-  module _ (two : row / 4096 ≡ 2) (m : List ℕ) (marked : m ≡ marksOf t) (few : root t < 1024) where
+  module _ (two : row / 4096 ≡ 2) (m : Marks) (marked : m ≡ marksOf t) (few : root t < 1024) where
     is-statement : isClass t statement (root t) ≡ true
     is-statement = eq-eqb (rank (rowAt t (root t) .class)) 2 (class-here t (root t) row read ∙ two)
 
-    named : (k : ℕ) → k < root t → getD m k 0 ≡ min 2 (occurs k (joined (children t) (nodes t)))
-    named k h = rw marked (marks-say t k (omega arith))
+    counted : (k : ℕ) → k < root t → named m k ≡ min 2 (occurs k (joined (children t) (nodes t)))
+    counted k h = rw marked (marks-say t k (omega arith))
 
-    once : (k : ℕ) → k < root t → getD m k 0 ≡ 1 → onceFault t k ≡ fine
-    once k h e = fine-once t k (omega (arith, named k h))
+    once : (k : ℕ) → k < root t → named m k ≡ 1 → onceFault t k ≡ fine
+    once k h e = fine-once t k (omega (arith, counted k h))
 
-    pub refused-8 : (k : ℕ) → k < root t → ((j : ℕ) → j < k → getD m j 0 ≡ 1) → (getD m k 0 ≡ 1 → ⊥)
+    pub refused-8 : (k : ℕ) → k < root t → ((j : ℕ) → j < k → named m j ≡ 1) → (named m k ≡ 1 → ⊥)
         → answer (treeRefusal t) ≡ answer (some (refusal 8 k))
     unfolding treeRefusal answer _orElse_ refuse onceFault
     refused-8 k l before here =
-        let not-once : occurs k (joined (children t) (nodes t)) ≡ 1 → ⊥ = λ e. here (omega (arith, named k l)) in
+        let not-once : occurs k (joined (children t) (nodes t)) ≡ 1 → ⊥ = λ e. here (omega (arith, counted k l)) in
         let eight : onceFault t k ≡ 8 = rw (ne-eqb (occurs k (joined (children t) (nodes t))) 1 not-once) in
         let found = some-refuseLowest (onceFault t) (root t) k l (λ e. omega arith) (λ j h. once j (omega arith) (before j h)) in
         rw (is-statement, found, eight)
 
-    module _ (ones : (k : ℕ) → k < root t → getD m k 0 ≡ 1) where
+    module _ (ones : (k : ℕ) → k < root t → named m k ≡ 1) where
       all-once : refuseLowest (onceFault t) (root t) ≡ none
       all-once = none-refuseLowest (onceFault t) (root t) (λ k h. once k h (ones k h))
 

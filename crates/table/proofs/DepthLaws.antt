@@ -1,53 +1,44 @@
--- A node's depth from its words, and a bound on it by the node's number.
+-- A node's depth by its children's, and a bound on it by the node's number.
 use mathlib.Core.Path.{_≡_, refl, ap, sym, _∙_}
-use mathlib.Core.Bool.{Bool, true, false, cond}
-use mathlib.Core.List.{List, [], _∷_, _++_}
-use Prim.Native.Nat.{ℕ, zero, suc, _+_, _<_, _≤_, max}
+use mathlib.Core.Bool.{Bool, true, false}
+use mathlib.Core.List.{List, [], _∷_}
+use Prim.Native.Nat.{ℕ, zero, suc, _<_, _≤_, max}
 use native.Mathlib.Omega.{arith}
-use lib.Dec.{ltb}
-use lib.ListN.{getD, set, length-set}
-use lib.Seq.{getD-set-same, getD-set-other}
-use borrow.Author.Tests.{ltb-true, ltb-false}
-use Rattle.rules.specs.Table.{field, nodes, rowAt, Slot, unused, any, var, child, childIn, children, deepest, depthAt}
+use lib.Dec.{eqb, ltb, leb}
+use borrow.Author.Tests.{eqb-true, eq-eqb, ltb-true, ltb-false, leb-true, leb-false}
+use Rattle.rules.specs.Table.{nodes, children, occurs, deepest, depthAt}
+use Rattle.rules.proofs.Bound.{occurs-none}
 use Rattle.rules.proofs.ListLaws.{Below}
-use Rattle.rules.proofs.TableLaws.{Fills, NodeFits, node-fits, children-below, depth-at}
-use Rattle.table.specs.inside.Steps.{slotCode, Sound, Measured}
-use Rattle.table.proofs.RowLaws.{rank-small}
+use Rattle.rules.proofs.TableLaws.{NodeFits, node-fits, children-below, depth-at}
+use Rattle.table.specs.inside.Steps.{Sound}
 
-deepest-append : (f : ℕ → ℕ) (xs ys : List ℕ) → deepest f (xs ++ ys) ≡ max (deepest f xs) (deepest f ys)
-unfolding deepest
-deepest-append f [] ys = omega arith
-deepest-append f (x ∷ xs) ys = let r : deepest f (xs ++ ys) ≡ max (deepest f xs) (deepest f ys) = deepest-append f xs ys in omega arith
+deepest-named : (f : ℕ → ℕ) (k : ℕ) (ks : List ℕ) → 0 < occurs k ks → f k ≤ deepest f ks
+unfolding deepest occurs
+deepest-named f k [] h = absurd (omega arith)
+deepest-named f k (x ∷ ks) h = by (eqb k x) refl (deepest-named f k ks)
+  where
+    by : (same : Bool) → eqb k x ≡ same → (0 < occurs k ks → f k ≤ deepest f ks) → f k ≤ max (f x) (deepest f ks)
+    by true e later = omega (arith, ap f (eqb-true k x e))
+    by false e later = omega (arith, later (omega (arith, rw e at h)))
+
+-- one of the deepest
+deepest-some : (f : ℕ → ℕ) (ks : List ℕ) → 0 < deepest f ks → (k : ℕ) × (0 < occurs k ks) × (f k ≡ deepest f ks)
+unfolding deepest occurs
+deepest-some f [] h = absurd (omega arith)
+deepest-some f (x ∷ ks) h = by (leb (deepest f ks) (f x)) refl (deepest-some f ks)
+  where
+    by : (first : Bool) → leb (deepest f ks) (f x) ≡ first → (0 < deepest f ks → (k : ℕ) × (0 < occurs k ks) × (f k ≡ deepest f ks))
+        → (k : ℕ) × (0 < occurs k (x ∷ ks)) × (f k ≡ max (f x) (deepest f ks))
+    by true e later = (x, rw (eq-eqb x x refl) (omega arith), omega (arith, leb-true (deepest f ks) (f x) e))
+    by false e later =
+        let lower = leb-false (deepest f ks) (f x) e in
+        let found = later (omega (arith, lower)) in
+        (found .0, omega (arith, found .1), found .2 ∙ omega (arith, lower))
 
 deepest-below : (f : ℕ → ℕ) (b : ℕ) (xs : List ℕ) → Below b xs → ((x : ℕ) → x < b → f x ≤ b) → deepest f xs ≤ b
 unfolding deepest
 deepest-below f b [] l h = omega arith
 deepest-below f b (x ∷ xs) l h = omega (arith, h x (l .0), deepest-below f b xs (l .1) h)
-
--- how deep the word w is: nothing where it is no child
-abbrev wordDepth : List ℕ → Slot → ℕ → ℕ
-wordDepth t s w = deepest (depthAt t) (childIn s w)
-
-no-depth : (t : List ℕ) (s : Slot) (w k : ℕ) → slotCode s ≡ k → 4 ≤ k → wordDepth t s w ≡ 0
-unfolding slotCode childIn deepest
-no-depth t unused w k e h = refl
-no-depth t any w k e h = refl
-no-depth t var w k e h = refl
-no-depth t (child c) w k e h = absurd (omega (arith, rank-small c))
-
-child-depth : (t : List ℕ) (s : Slot) (w k : ℕ) → slotCode s ≡ k → k < 4 → wordDepth t s w ≡ depthAt t w
-unfolding slotCode childIn deepest
-child-depth t unused w k e h = absurd (omega arith)
-child-depth t any w k e h = absurd (omega arith)
-child-depth t var w k e h = absurd (omega arith)
-child-depth t (child c) w k e h = omega arith
-
-pub child-lower : (t : List ℕ) (n : ℕ) (s : Slot) (w k : ℕ) → slotCode s ≡ k → Fills t n s w → k < 4 → w < n
-unfolding slotCode
-child-lower t n unused w k e f h = absurd (omega arith)
-child-lower t n any w k e f h = absurd (omega arith)
-child-lower t n var w k e f h = absurd (omega arith)
-child-lower t n (child c) w k e f h = f .below
 
 module _ (t : List ℕ) (sound : Sound t) where
   pub fits : (n : ℕ) → n < nodes t → NodeFits t n
@@ -56,17 +47,24 @@ module _ (t : List ℕ) (sound : Sound t) where
   low : (n : ℕ) → n < nodes t → Below n (children t n)
   low n h = children-below t n (fits n h)
 
-  pub depth-words : (n : ℕ) → n < nodes t
-      → depthAt t n
-      ≡ suc
-      (max (max (wordDepth t (rowAt t n .p) (field t n 1)) (wordDepth t (rowAt t n .q) (field t n 2)))
-      (wordDepth t (rowAt t n .r) (field t n 3)))
-  unfolding children
-  depth-words n h =
-      let ps = childIn (rowAt t n .p) (field t n 1) in
-      let qs = childIn (rowAt t n .q) (field t n 2) in
-      let rs = childIn (rowAt t n .r) (field t n 3) in
-      depth-at t n (low n h) ∙ ap suc (deepest-append (depthAt t) (ps ++ qs) rs ∙ rw (deepest-append (depthAt t) ps qs))
+  pub depth-some : (n : ℕ) → n < nodes t → 0 < depthAt t n
+  depth-some n h = omega (arith, depth-at t n (low n h))
+
+  pub child-below : (n k : ℕ) → n < nodes t → 0 < occurs k (children t n) → k < n
+  child-below n k h c = by (ltb k n) refl
+    where
+      by : (b : Bool) → ltb k n ≡ b → k < n
+      by true e = ltb-true k n e
+      by false e = absurd (omega (arith, occurs-none n k (children t n) (low n h) (ltb-false k n e), c))
+
+  pub child-less-deep : (n k : ℕ) → n < nodes t → 0 < occurs k (children t n) → depthAt t k < depthAt t n
+  child-less-deep n k h c = omega (arith, depth-at t n (low n h), deepest-named (depthAt t) k (children t n) c)
+
+  pub deepest-child : (n : ℕ) → n < nodes t → 1 < depthAt t n
+      → (k : ℕ) × (0 < occurs k (children t n)) × (suc (depthAt t k) ≡ depthAt t n)
+  deepest-child n h d =
+      let found = deepest-some (depthAt t) (children t n) (omega (arith, depth-at t n (low n h))) in
+      (found .0, found .1, ap suc (found .2) ∙ sym (depth-at t n (low n h)))
 
   -- a node is at most one deeper than its number
   pub depth-most : (n : ℕ) → n < nodes t → depthAt t n ≤ suc n
@@ -77,31 +75,3 @@ module _ (t : List ℕ) (sound : Sound t) where
       within (suc m) n l h =
           let lower : (x : ℕ) → x < n → depthAt t x ≤ n = λ x g. let d = within m x (omega arith) (omega arith) in omega arith in
           omega (arith, depth-at t n (low n h), deepest-below (depthAt t) n (children t n) (low n h) lower)
-
--- ---- depths that are known already
-
--- what is read for the word w of node n in slot k is how deep it is
-pub word-measured : {t : List ℕ} {n : ℕ} {d : List ℕ} → Measured t n d → (s : Slot) (w k : ℕ) → slotCode s ≡ k → Fills t n s w
-    → cond (ltb k 4) (getD d w 0) 0 ≡ wordDepth t s w
-word-measured {t} {n} {d} m s w k e f = by (ltb k 4) refl
-  where
-    by : (b : Bool) → ltb k 4 ≡ b → cond (ltb k 4) (getD d w 0) 0 ≡ wordDepth t s w
-    by true h =
-        let c = ltb-true k 4 h in
-        rw h (m .known w (child-lower t n s w k e f c) ∙ sym (child-depth t s w k e c))
-    by false h = rw h (sym (no-depth t s w k e (ltb-false k 4 h)))
-
--- one depth more
-pub measured-more : {t : List ℕ} {n : ℕ} {d : List ℕ} → Measured t n d → n < 1024 → (v : ℕ) → v ≡ depthAt t n → Measured t (n + 1) (set d n v)
-measured-more {t} {n} {d} m h v e = record { room = length-set d n v ∙ m .room; known = known }
-  where
-    known : (k : ℕ) → k < n + 1 → getD (set d n v) k 0 ≡ depthAt t k
-    known k l = by (ltb k n) refl
-      where
-        by : (b : Bool) → ltb k n ≡ b → getD (set d n v) k 0 ≡ depthAt t k
-        by true q =
-            let lower = ltb-true k n q in
-            getD-set-other d n k v 0 (λ same. absurd (omega (arith, lower))) ∙ m .known k lower
-        by false q =
-            let same : k ≡ n = omega (arith, ltb-false k n q) in
-            rw same (getD-set-same d n v 0 (omega (arith, m .room)) ∙ e)

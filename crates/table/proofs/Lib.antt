@@ -2,7 +2,10 @@
 pub mod Answer
 pub mod Determined
 pub mod RowLaws
+pub mod SetLaws
 pub mod MarkLaws
 pub mod WordLaws
 pub mod DepthLaws
+pub mod AddLaws
+pub mod LevelLaws
 pub mod CheckLaws

@@ -1,16 +1,19 @@
 -- A row as a number: its four digits give back the class and the slots, and a slot's number gives back the slot.
 use mathlib.Core.Path.{_≡_, refl, ap}
-use mathlib.Core.Bool.{Bool, true}
+use mathlib.Core.Bool.{Bool, true, false}
 use mathlib.Core.List.{List}
-use Prim.Native.Nat.{ℕ, _*_, _/_, _%_, _<_, _≤_}
+use Prim.Native.Nat.{ℕ, _+_, _*_, _/_, _%_, _<_, _≤_}
 use native.Mathlib.Omega.{arith}
-use lib.Dec.{eqb, lit≤}
+use lib.Dec.{eqb, ltb, lit≤}
 use lib.ListN.{getD}
-use borrow.Author.Tests.{eqb-true}
+use borrow.Author.Tests.{eqb-true, ltb-true, ltb-false}
 use Rattle.rules.specs.Lists.{every}
-use Rattle.rules.specs.Table.{kindOf, rowOf, rowAt, Row, Class, arithmetic, boolean, statement, no-class, rank, Slot, unused, any, var, child}
+use Rattle.rules.specs.Refusal.{fine}
+use Rattle.rules.specs.Table.{nodeFault}
+use Rattle.rules.specs.Table.{unknown, kindOf, rowOf, rowAt, Row, Class, arithmetic, boolean, statement, no-class, rank, Slot, unused, any, var, child}
 use Rattle.rules.proofs.ListLaws.{every-true}
 use Rattle.rules.proofs.KindLaws.{kind-past}
+use Rattle.rules.proofs.TableLaws.{node-fits}
 use Rattle.table.specs.inside.Steps.{slotCode, rowCode, Rows}
 
 pub rank-small : (c : Class) → rank c < 4
@@ -78,3 +81,15 @@ row-past k h = rw (kind-past k h)
 -- the row that the code reads is the node's
 pub row-read : (t : List ℕ) (n : ℕ) → rowCode (rowOf (kindOf (getD t (4 * n) 0))) ≡ rowCode (rowAt t n)
 row-read t n = ap (λ (i : ℕ). rowCode (rowOf (kindOf (getD t i 0)))) (omega arith)
+
+-- a node without a fault has a kind
+pub known-kind : (t : List ℕ) (n : ℕ) → nodeFault t n ≡ fine → getD t (4 * n) 0 < 37
+unfolding rowOf
+known-kind t n e = by (ltb (getD t (4 * n) 0) 37) refl
+  where
+    by : (b : Bool) → ltb (getD t (4 * n) 0) 37 ≡ b → getD t (4 * n) 0 < 37
+    by true q = ltb-true (getD t (4 * n) 0) 37 q
+    by false q =
+        let at : 4 * n + 0 ≡ 4 * n = omega arith in
+        let past : kindOf (getD t (4 * n + 0) 0) ≡ unknown = rw at (kind-past (getD t (4 * n) 0) (ltb-false (getD t (4 * n) 0) 37 q)) in
+        absurd (node-fits t n e .known (rw past))

@@ -8,8 +8,9 @@ use lib.Dec.{eqb}
 use borrow.Author.Tests.{eqb-true, eqb-false, eq-eqb, ne-eqb, lt-ltb, le-ltb}
 use Rattle.rules.specs.Refusal.{fine}
 use Rattle.rules.specs.Table.{field, rowAt, rank, Slot, unused, any, var, child, wordFault, nodeFault, childIn, children}
-use Rattle.rules.proofs.TableLaws.{word-most}
-use Rattle.table.specs.inside.Steps.{Greatest, slotCode, rowCode, bumps, Placed, Walked}
+use Rattle.rules.proofs.TableLaws.{Fills, word-most}
+use Rattle.table.specs.inside.Steps.{Greatest, slotCode, rowCode, Placed, Walked}
+use Rattle.table.specs.inside.Sets.{Marks, bumps}
 use Rattle.table.proofs.MarkLaws.{bumps-append}
 use Rattle.table.proofs.RowLaws.{row-class, row-p, row-q, row-r, rank-small, slot-unused, slot-child}
 
@@ -52,6 +53,14 @@ module _ (t : List ℕ) (n w : ℕ) (s : Slot) (k : ℕ) (e : slotCode s ≡ k) 
     pub child-named : childIn s w ≡ w ∷ []
     unfolding childIn
     child-named = rw (slot-child s k e h .is)
+
+-- a child lies below its parent
+pub child-lower : (t : List ℕ) (n : ℕ) (s : Slot) (w k : ℕ) → slotCode s ≡ k → Fills t n s w → k < 4 → w < n
+unfolding slotCode
+child-lower t n unused w k e f h = absurd (omega arith)
+child-lower t n any w k e f h = absurd (omega arith)
+child-lower t n var w k e f h = absurd (omega arith)
+child-lower t n (child c) w k e f h = f .below
 
 -- the words that are no children
 module _ (t : List ℕ) (n w k g : ℕ) (h : 4 ≤ k) where
@@ -97,11 +106,11 @@ module _ (t : List ℕ) (n w k g : ℕ) (h : 4 ≤ k) where
 
 -- ---- a word and a node placed
 
-module _ (t : List ℕ) (n w : ℕ) (s : Slot) (m : List ℕ) where
-  pub placed : (m′ : List ℕ) → wordFault t n s w ≡ fine → m′ ≡ bumps m (childIn s w) → Placed t n s w m true m′
+module _ (t : List ℕ) (n w : ℕ) (s : Slot) (m : Marks) where
+  pub placed : (m′ : Marks) → wordFault t n s w ≡ fine → m′ ≡ bumps m (childIn s w) → Placed t n s w m true m′
   placed m′ e f = record { right = rw e; marked = λ _. f }
 
-  pub not-placed : (m′ : List ℕ) → wordFault t n s w < fine → Placed t n s w m false m′
+  pub not-placed : (m′ : Marks) → wordFault t n s w < fine → Placed t n s w m false m′
   not-placed m′ l = record { right = sym (ne-eqb (wordFault t n s w) fine (λ e. omega arith)); marked = λ e. cc }
 
 module _ (t : List ℕ) (n row : ℕ) (read : row ≡ rowCode (rowAt t n)) where
@@ -126,28 +135,28 @@ module _ (t : List ℕ) (n row : ℕ) (read : row ≡ rowCode (rowAt t n)) where
   unfolding nodeFault
   node-words ne = rw (ne-eqb (rank (rowAt t n .class)) 3 (λ e. ne (sym (class-here t n row read) ∙ e)))
 
-  pub unknown-walked : (m m′ : List ℕ) → row / 4096 ≡ 3 → Walked t n m false m′
+  pub unknown-walked : (m m′ : Marks) → row / 4096 ≡ 3 → Walked t n m false m′
   unknown-walked m m′ e = record { right = sym (rw (node-2 e)); marked = λ q. cc }
 
   module _ (ne : row / 4096 ≡ 3 → ⊥) where
-    wrong : (m m′ : List ℕ) → min P (min Q R) < fine → Walked t n m false m′
+    wrong : (m m′ : Marks) → min P (min Q R) < fine → Walked t n m false m′
     wrong m m′ l = record { right = sym (ne-eqb (nodeFault t n) fine (λ e. omega (arith, node-words ne))); marked = λ q. cc }
 
-    module _ (a b : Bool) (m m₁ : List ℕ) (p : Placed t n (rowAt t n .p) (field t n 1) m a m₁) where
+    module _ (a b : Bool) (m m₁ : Marks) (p : Placed t n (rowAt t n .p) (field t n 1) m a m₁) where
       pub wrong-p : a ≡ false → Walked t n m false m₁
       wrong-p e =
           let l = word-most t n (rowAt t n .p) (field t n 1) in
           let f : P ≡ fine → ⊥ = faulty a P (p .right) e in
           wrong m m₁ (omega arith)
 
-      module _ (m₂ : List ℕ) (q : Placed t n (rowAt t n .q) (field t n 2) m₁ b m₂) where
+      module _ (m₂ : Marks) (q : Placed t n (rowAt t n .q) (field t n 2) m₁ b m₂) where
         pub wrong-q : b ≡ false → Walked t n m false m₂
         wrong-q e =
             let l = word-most t n (rowAt t n .q) (field t n 2) in
             let f : Q ≡ fine → ⊥ = faulty b Q (q .right) e in
             wrong m m₂ (omega arith)
 
-        pub walked : (c : Bool) (m₃ : List ℕ) → a ≡ true → b ≡ true → Placed t n (rowAt t n .r) (field t n 3) m₂ c m₃ → Walked t n m c m₃
+        pub walked : (c : Bool) (m₃ : Marks) → a ≡ true → b ≡ true → Placed t n (rowAt t n .r) (field t n 3) m₂ c m₃ → Walked t n m c m₃
         unfolding children
         walked c m₃ x y r =
             let ps = childIn (rowAt t n .p) (field t n 1) in

@@ -2,7 +2,8 @@
 // 0 arithmetic, 1 boolean, 2 statement or 3 none. A word is a child of one of these classes, 4 unused, 5 any number or 6 a variable.
 ghost use mathlib.Core.Path.{_≡_};
 ghost use Prim.Native.Nat.{_<_};
-ghost use Rattle.rules.specs.Table.{nodes, rowAt};
+ghost use Rattle.rules.specs.Refusal.{fine};
+ghost use Rattle.rules.specs.Table.{nodes, rowAt, nodeFault};
 ghost use Rattle.table.specs.inside.Steps.{rowCode, Rows};
 
 pub(crate) const ROWS: [u32; 37] = [
@@ -52,4 +53,12 @@ pub(crate) fn row_at(t: &[u32], rows: &[u32; 37], n: usize) -> u32
 {
     let k = t[4 * n] as usize;
     if k < 37 { rows[k] } else { 0x3444 }
+}
+
+// The row of node n, where its kind is known.
+pub(crate) fn known_row_at(t: &[u32], rows: &[u32; 37], n: usize) -> u32
+    requires { ⌜ (n < nodes (now t)) × Rows (now rows) × (nodeFault (now t) n ≡ fine) ⌝ }
+    ensures { λ r. ⌜ r ≡ rowCode (rowAt (now (t .entry)) n) ⌝ }
+{
+    rows[t[4 * n] as usize]
 }

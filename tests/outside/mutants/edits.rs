@@ -241,6 +241,36 @@ pub const EDITS: &[Edit] = &[
         to: "named[node] > 1",
     },
     Edit {
+        says: "a node named three times passes",
+        file: "table.rs",
+        from: "named[node] != 1",
+        to: "named[node] % 2 != 1",
+    },
+    Edit {
+        says: "nodes below 32 are not searched",
+        file: "table.rs",
+        from: "(0..count - 1).find",
+        to: "(32..count - 1).find",
+    },
+    Edit {
+        says: "nodes from 992 up are not searched",
+        file: "table.rs",
+        from: "(0..count - 1).find",
+        to: "(0..(count - 1).min(992)).find",
+    },
+    Edit {
+        says: "the place of 8 is the first node of its 32",
+        file: "table.rs",
+        from: "        return refuse(8, node);",
+        to: "        return refuse(8, node / 32 * 32);",
+    },
+    Edit {
+        says: "depth follows the last child",
+        file: "table.rs",
+        from: "below.max().unwrap_or(0)",
+        to: "below.last().unwrap_or(0)",
+    },
+    Edit {
         says: "depth 257 passes",
         file: "table.rs",
         from: "pub const MOST_DEPTH: u32 = 256;",

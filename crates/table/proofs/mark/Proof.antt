@@ -1,35 +1,38 @@
--- `table::mark` meets its contract: a mark that is not 0 becomes 2.
-use mathlib.Core.Path.{_≡_, ap, sym}
-use Prim.Native.Nat.{ℕ, _+_, _<_, min}
-use native.Mathlib.Nat.{pos-of-ne-zero}
-use native.Mathlib.Omega.{arith}
-use lib.ListN.{getD, set}
+-- `table::mark` meets its contract.
+use mathlib.Core.Path.{_≡_, ap, sym, _∙_}
+use mathlib.Core.Bool.{true, false}
+use mathlib.Core.List.{List}
+use Prim.Native.Nat.{ℕ}
+use lib.Dec.{eqb}
 use borrow.Author.Needs.{needs}
-use Rattle.table.specs.inside.Steps.{bump}
+use Rattle.table.specs.inside.Sets.{held, bump}
 use Rattle.table.proofs.mark.Statement.{statement}
 use Rattle.table.proofs.mark.Tie as tie
 
-element-copy-out-if1 : tie.Need-element-copy-out-if1
-element-copy-out-if1 c = search needs
+holds-requires : tie.Need-holds-requires
+holds-requires c κs = search needs
 
-element-write-marks : tie.Need-element-write-marks
-element-write-marks c = search needs
-
-element-write-marks-2 : tie.Need-element-write-marks-2
-element-write-marks-2 c = search needs
+put-requires : tie.Need-put-requires
+put-requires c κs = search needs
 
 returns : tie.Need-returns
 unfolding bump
-returns c = rw (c .if1 .taken)
+returns c =
+    let test = c .before .before in
+    let args = test .before .before .before .args in
+    let seen : eqb (held (args .once .now) (args .k)) 1 ≡ true = sym (test .before .holds .ensures) ∙ test .if1 .taken in
+    ap (λ (row : List ℕ). (args .once .now, row)) (c .put .ensures) ∙ rw seen
+
+put-requires-2 : tie.Need-put-requires-2
+put-requires-2 c κs = search needs
 
 returns-2 : tie.Need-returns-2
 unfolding bump
 returns-2 c =
-    let args = c .before .before .args in
-    let x : ℕ = getD (args .marks .now) (args .k) 0 in
-    let h : 0 < x = pos-of-ne-zero (c .if1 .left) in
-    let e : min 2 (x + 1) ≡ 2 = omega arith in
-    ap (λ (v : ℕ). set (args .marks .now) (args .k) v) (sym e)
+    let test = c .before .before in
+    let args = test .before .before .before .args in
+    let fresh : eqb (held (args .once .now) (args .k)) 1 ≡ false = sym (test .before .holds .ensures) ∙ test .if1 .left in
+    ap (λ (row : List ℕ). (row, args .again .now)) (c .put2 .ensures) ∙ rw fresh
 
 pub mark-spec : {M : Type 1} → statement M
-mark-spec = tie.close (tie.spec element-copy-out-if1 element-write-marks element-write-marks-2 returns returns-2)
+mark-spec = tie.close (tie.spec holds-requires put-requires put-requires-2 returns returns-2)

@@ -44,7 +44,7 @@ word-requires c κs = search needs
 returns-2 : tie.Need-returns-2
 returns-2 c =
     let first = c .before in
-    let test = first .before .before .before in
+    let test = first .before .before .before .before in
     let p = first .word .ensures _ (slot-p (tab test) (num test) _ (read test)) in
     wrong-p _ _ _ (read test) (test .if1 .left) _ (first .word .result) _ _ p (not-true _ (c .if2 .taken))
 
@@ -63,8 +63,8 @@ word-requires-2 c κs = search needs
 returns-3 : tie.Need-returns-3
 returns-3 c =
     let second = c .before in
-    let first = second .before .before .before .before in
-    let test = first .before .before .before in
+    let first = second .before .before .before .before .before in
+    let test = first .before .before .before .before in
     let p = first .word .ensures _ (slot-p (tab test) (num test) _ (read test)) in
     let q = second .word2 .ensures _ (slot-q (tab test) (num test) _ (read test)) in
     wrong-q _ _ _ (read test) (test .if1 .left) _ _ _ _ p _ q (not-true _ (c .if3 .taken))
@@ -83,11 +83,11 @@ word-requires-3 c κs = search needs
 
 returns-4 : tie.Need-returns-4
 returns-4 c =
-    let past-q = c .before .before .before in
+    let past-q = c .before .before .before .before in
     let second = past-q .before in
-    let past-p = second .before .before .before in
+    let past-p = second .before .before .before .before in
     let first = past-p .before in
-    let test = first .before .before .before in
+    let test = first .before .before .before .before in
     let p = first .word .ensures _ (slot-p (tab test) (num test) _ (read test)) in
     let q = second .word2 .ensures _ (slot-q (tab test) (num test) _ (read test)) in
     let r = c .word3 .ensures _ (slot-r (tab test) (num test) _ (read test)) in

@@ -11,36 +11,42 @@ use Rattle.rules.specs.Refusal.{fine}
 use Rattle.rules.specs.Table.{nodes, nodeFault, children}
 use Rattle.rules.proofs.ListLaws.{some-refuseLowest, none-refuseLowest}
 use Rattle.table.specs.Checking.{answer}
-use Rattle.table.specs.inside.Steps.{bumps}
+use Rattle.table.specs.inside.Sets.{Marks, bumps}
 use Rattle.table.proofs.MarkLaws.{marks-next}
 use Rattle.table.proofs.walk.Statement.{statement}
 use Rattle.table.proofs.walk.Tie as tie
 
 abbrev Inv-loop : tie.InvT-loop
-Inv-loop t rows marks₀ count n₀ marks n =
-    (n ≤ count) × ((k : ℕ) → k < n → nodeFault t k ≡ fine) × (marks ≡ bumps marks₀ (joined (children t) n))
+Inv-loop t rows once₀ again₀ count n₀ once again n =
+    (n ≤ count)
+    × ((k : ℕ) → k < n → nodeFault t k ≡ fine)
+    × (_≡_ {A = Marks} (once, again) (bumps (once₀, again₀) (joined (children t) n)))
 
 abbrev μ-loop : tie.MeasureT-loop
-μ-loop t rows marks₀ count n₀ marks n = count - n
+μ-loop t rows once₀ again₀ count n₀ once again n = count - n
 
 loop-holds : tie.Need-loop-holds Inv-loop μ-loop
 unfolding joined bumps
 loop-holds c = (search needs, λ k h. absurd (omega arith), refl)
 
 node-requires : tie.Need-node-requires Inv-loop μ-loop
-node-requires c κs = (record { inside = search needs; few = search needs }, c .before .before .before .before .pre .1)
+node-requires c κs =
+    let here = c .before .before .before in
+    (record { within = record { inside = search needs; few = search needs }; passed = here .loop .inv .1 }, here .before .before .pre .1)
 
 refused-requires : tie.Need-refused-requires Inv-loop μ-loop
 refused-requires c κs = search needs
 
 node-fault-requires : tie.Need-node-fault-requires Inv-loop μ-loop
-node-fault-requires c κs = (record { inside = search needs; few = search needs }, c .before .before .before .before .before .before .pre .1)
+node-fault-requires c κs =
+    let here = c .before .before .before .before .before in
+    (record { within = record { inside = search needs; few = search needs }; passed = here .loop .inv .1 }, here .before .before .pre .1)
 
 returns : tie.Need-returns Inv-loop μ-loop
 returns c =
     let told = c .before in
     let seen = told .before .before in
-    let here = seen .before .before .before in
+    let here = seen .before .before .before .before in
     let t : List ℕ = here .before .before .args .t .now in
     let n : ℕ = here .loop .n in
     let inside : n < nodes t = search needs in
@@ -57,7 +63,7 @@ loop-less c = search needs
 
 loop-again : tie.Need-loop-again Inv-loop μ-loop
 loop-again c =
-    let here = c .before .before .before .before in
+    let here = c .before .before .before .before .before in
     let seen = c .before .node .ensures in
     let right = not-false _ (c .if1 .left) in
     let all-fine = below-more _ _ (here .loop .inv .1) (eqb-true _ fine (sym (seen .right) ∙ right)) in

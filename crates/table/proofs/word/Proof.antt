@@ -1,7 +1,7 @@
 -- `table::word` meets its contract.
 use mathlib.Core.Path.{sym, ap}
 use native.Mathlib.Omega.{arith}
-use Rattle.table.specs.inside.Steps.{bumps}
+use Rattle.table.specs.inside.Sets.{bumps}
 use Rattle.table.proofs.WordLaws.{none-named, zero-fine, word-fine, word-faulty, placed, not-placed}
 use borrow.Author.Needs.{needs}
 use Rattle.table.proofs.word.Statement.{statement}
@@ -20,7 +20,7 @@ returns-2 c = λ s e.
     let args = other .before .before .args in
     placed _ _ _ _ _ _
     (zero-fine (args .t .now) (args .n) (args .w) _ 0 (other .if1 .left) s e (c .if2 .taken))
-    (ap (bumps (args .marks .now)) (sym (none-named (args .t .now) (args .n) (args .w) _ 0 (other .if1 .left) s e)))
+    (ap (bumps (args .once .now, args .again .now)) (sym (none-named (args .t .now) (args .n) (args .w) _ 0 (other .if1 .left) s e)))
 
 greatest-requires : tie.Need-greatest-requires
 greatest-requires c κs = search needs
@@ -32,7 +32,7 @@ returns-3 c = λ s e.
     let args = other .before .before .args in
     placed _ _ _ _ _ _
     (word-fine (args .t .now) (args .n) (args .w) _ _ (other .if1 .left) (c .before .greatest .ensures) s e (c .if3 .taken))
-    (ap (bumps (args .marks .now)) (sym (none-named (args .t .now) (args .n) (args .w) _ 0 (other .if1 .left) s e)))
+    (ap (bumps (args .once .now, args .again .now)) (sym (none-named (args .t .now) (args .n) (args .w) _ 0 (other .if1 .left) s e)))
 
 returns-4 : tie.Need-returns-4
 returns-4 c = λ s e.

@@ -9,18 +9,20 @@ use Rattle.table.proofs.word_fault.Tie as tie
 returns : tie.Need-returns
 returns c = λ s e. sym (fault-5 _ _ _ s _ e (c .before .if1 .taken) (c .if2 .taken))
 
-row-at-requires : tie.Need-row-at-requires
-row-at-requires c κs = search needs
+known-row-at-requires : tie.Need-known-row-at-requires
+known-row-at-requires c κs =
+    let pre = c .before .before .before .pre in
+    (search needs, pre .1, pre .0 .passed _ (c .if2 .left))
 
 returns-2 : tie.Need-returns-2
 returns-2 c =
     let read = c .before in
-    λ s e. sym (fault-6 _ _ _ s _ e (read .before .before .if1 .taken) _ (read .row-at .ensures) (read .before .if2 .left) (c .if3 .taken))
+    λ s e. sym (fault-6 _ _ _ s _ e (read .before .before .if1 .taken) _ (read .known-row-at .ensures) (read .before .if2 .left) (c .if3 .taken))
 
 returns-3 : tie.Need-returns-3
 returns-3 c =
     let read = c .before in
-    λ s e. sym (child-fine _ _ _ s _ e (read .before .before .if1 .taken) _ (read .row-at .ensures) (read .before .if2 .left) (c .if3 .left))
+    λ s e. sym (child-fine _ _ _ s _ e (read .before .before .if1 .taken) _ (read .known-row-at .ensures) (read .before .if2 .left) (c .if3 .left))
 
 greatest-requires : tie.Need-greatest-requires
 greatest-requires c κs = search needs
@@ -43,7 +45,7 @@ word-fault-spec =
     tie.close
     (tie.spec
     returns
-    row-at-requires
+    known-row-at-requires
     returns-2
     returns-3
     greatest-requires

@@ -1,12 +1,11 @@
--- What the private functions of the check promise each other: the rows of 01's table as numbers, the marks of the children named so
--- far, and the parts of the answer.
-use Prim.Native.Nat.{ℕ, _+_, _*_, _<_, _≤_, min}
+-- What the private functions of the check promise each other: the rows of 01's table as numbers, and the parts of the answer.
+use Prim.Native.Nat.{ℕ, _+_, _*_, _<_, _≤_}
 use mathlib.Core.Path.{_≡_}
 use mathlib.Core.Bool.{Bool, true, not}
-use mathlib.Core.List.{List, [], _∷_}
+use mathlib.Core.List.{List}
 use mathlib.Core.Option.{Option}
 use lib.Dec.{eqb, ltb}
-use lib.ListN.{length, getD, set, replicate}
+use lib.ListN.{getD}
 use Rattle.rules.specs.Lists.{joined}
 use Rattle.rules.specs.Refusal.{fine, refuse, refuseLowest, _orElse_}
 use Rattle.rules.specs.Table.{nodes, root, kindOf, rowOf, Row, statement, rank, isClass, Slot, unused, any, var, child}
@@ -14,6 +13,7 @@ use Rattle.rules.specs.Table.{wordFault, nodeFault, onceFault, childIn, childre
 use Rattle.rules.specs.declared.Refusal.{Refusal}
 use Rattle.rules.specs.declared.Checked.{Checked}
 use Rattle.table.specs.Checking.{answer}
+use Rattle.table.specs.inside.Sets.{Marks, bumps, marksOf, Nodes, adds}
 
 -- ---- rows
 
@@ -36,26 +36,6 @@ pub record Rows (rows : List ℕ) : Type 0 where
 abbrev pub Greatest : ℕ → ℕ → Type 0
 Greatest slot g = (slot ≡ 4 → g ≡ 0) × (slot ≡ 5 → g ≡ 4294967295) × (slot ≡ 6 → g ≡ 31)
 
--- ---- marks
-
--- one more at k, but at most 2
-unfoldable pub bump : List ℕ → ℕ → List ℕ
-bump m k = set m k (min 2 (getD m k 0 + 1))
-
-unfoldable pub bumps : List ℕ → List ℕ → List ℕ
-bumps m [] = m
-bumps m (k ∷ ks) = bumps (bump m k) ks
-
--- the marks once every node is walked
-unfoldable pub marksOf : List ℕ → List ℕ
-marksOf t = bumps (replicate 1024 0) (joined (children t) (nodes t))
-
--- r is the first mark below root that is not 1, or root
-pub record FirstNotOne (m : List ℕ) (root r : ℕ) : Type 0 where
-  pub most : r ≤ root
-  pub ones : (k : ℕ) → k < r → getD m k 0 ≡ 1
-  pub not-one : r < root → getD m r 0 ≡ 1 → ⊥
-
 -- ---- words and nodes
 
 -- node n is one of at most 1,024
@@ -63,20 +43,25 @@ pub record Within (t : List ℕ) (n : ℕ) : Type 0 where
   pub inside : n < nodes t
   pub few : nodes t ≤ 1024
 
+-- the same, and no node below n has a fault
+pub record Reached (t : List ℕ) (n : ℕ) : Type 0 where
+  pub within : Within t n
+  pub passed : (k : ℕ) → k < n → nodeFault t k ≡ fine
+
 -- r is whether the word w has no fault, and then the child that it names is marked
-pub record Placed (t : List ℕ) (n : ℕ) (s : Slot) (w : ℕ) (m : List ℕ) (r : Bool) (m′ : List ℕ) : Type 0 where
+pub record Placed (t : List ℕ) (n : ℕ) (s : Slot) (w : ℕ) (m : Marks) (r : Bool) (m′ : Marks) : Type 0 where
   pub right : r ≡ eqb (wordFault t n s w) fine
   pub marked : r ≡ true → m′ ≡ bumps m (childIn s w)
 
 -- the same, by the number of the slot
-abbrev pub PlacedBy : List ℕ → ℕ → ℕ → ℕ → List ℕ → Bool → List ℕ → Type 0
+abbrev pub PlacedBy : List ℕ → ℕ → ℕ → ℕ → Marks → Bool → Marks → Type 0
 PlacedBy t n slot w m r m′ = (s : Slot) → slotCode s ≡ slot → Placed t n s w m r m′
 
 abbrev pub FaultBy : List ℕ → ℕ → ℕ → ℕ → ℕ → Type 0
 FaultBy t n slot w r = (s : Slot) → slotCode s ≡ slot → r ≡ wordFault t n s w
 
 -- r is whether node n has no fault, and then its children are marked
-pub record Walked (t : List ℕ) (n : ℕ) (m : List ℕ) (r : Bool) (m′ : List ℕ) : Type 0 where
+pub record Walked (t : List ℕ) (n : ℕ) (m : Marks) (r : Bool) (m′ : Marks) : Type 0 where
   pub right : r ≡ eqb (nodeFault t n) fine
   pub marked : r ≡ true → m′ ≡ bumps m (children t n)
 
@@ -85,16 +70,15 @@ abbrev pub Sound : List ℕ → Type 0
 Sound t = (n : ℕ) → n < nodes t → nodeFault t n ≡ fine
 
 -- r answers 2 to 6, and where there is none of them every child is marked
-pub record Swept (t m : List ℕ) (r : Checked) (m′ : List ℕ) : Type 0 where
+pub record Swept (t : List ℕ) (m : Marks) (r : Checked) (m′ : Marks) : Type 0 where
   pub answered : r ≡ answer (refuseLowest (nodeFault t) (nodes t))
   pub marked : Sound t → m′ ≡ bumps m (joined (children t) (nodes t))
 
 -- ---- the tree
 
--- the depths of the nodes below n
-pub record Measured (t : List ℕ) (n : ℕ) (depths : List ℕ) : Type 0 where
-  pub room : length depths ≡ 1024
-  pub known : (k : ℕ) → k < n → getD depths k 0 ≡ depthAt t k
+-- the child that the word w names in this slot, if it names one, is added
+abbrev pub AddedBy : ℕ → ℕ → Nodes → Nodes → Type 0
+AddedBy slot w m m′ = (s : Slot) → slotCode s ≡ slot → m′ ≡ adds m (childIn s w)
 
 -- refusals 7 to 9
 unfoldable pub treeRefusal : List ℕ → Option Refusal
@@ -104,7 +88,7 @@ treeRefusal t =
     orElse refuse (ltb 256 (depthAt t (root t))) 9 0
 
 -- what is known when they are looked for
-pub record Marked (t rows m : List ℕ) : Type 0 where
+pub record Marked (t rows : List ℕ) (m : Marks) : Type 0 where
   pub within : Within t (root t)
   pub sound : Sound t
   pub marks : m ≡ marksOf t

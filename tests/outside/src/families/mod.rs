@@ -27,7 +27,9 @@ pub const ROUND: &[Family] = &[
     damaged_tables,
     deep_programs,
     deep_damaged_tables,
+    deep_and_wide_tables,
     wide_programs,
+    wide_damaged_tables,
     hand_written_code,
     hand_written_code,
     damaged_code,
@@ -98,9 +100,14 @@ fn deep_programs(random: &mut Random) -> Vec<Case> {
 fn deep_damaged_tables(random: &mut Random) -> Vec<Case> {
     let tree = programs::deep(random, Class::Statement, 257);
     let table = numbered(random, &tree);
+    four_damaged(random, &table, damage::damage)
+}
+
+/// Checks of four copies of a table, each damaged in its own way.
+fn four_damaged(random: &mut Random, table: &[u32], damage: fn(&mut Random, &mut Vec<u32>)) -> Vec<Case> {
     let mut damaged = || {
-        let mut table = table.clone();
-        damage::damage(random, &mut table);
+        let mut table = table.to_vec();
+        damage(random, &mut table);
         Case::Check { table }
     };
     vec![damaged(), damaged(), damaged(), damaged()]
@@ -112,6 +119,24 @@ fn wide_programs(random: &mut Random) -> Vec<Case> {
     let tree = programs::wide(random, nodes);
     let table = numbered(random, &tree);
     all_calls(random, &table)
+}
+
+/// As many nodes as there may be, in levels about as many as there may be.
+fn deep_and_wide_tables(random: &mut Random) -> Vec<Case> {
+    let mut table = || {
+        let depth = random.from(254, 258);
+        let tree = programs::deep_and_wide(random, depth, 1024);
+        Case::Check { table: shuffle(random, &tree.table()) }
+    };
+    vec![table(), table()]
+}
+
+/// Nodes named too often or not at all, in tables so large that they fill many words of marks.
+fn wide_damaged_tables(random: &mut Random) -> Vec<Case> {
+    let nodes = random.pick(&[1024, 1024, 1000, 512, 64, 33, 32, 31]);
+    let tree = programs::wide(random, nodes);
+    let table = numbered(random, &tree);
+    four_damaged(random, &table, |random, table| damage::name_often(random, table))
 }
 
 /// The check, compilation and both runs of one table, whether it is accepted or not.

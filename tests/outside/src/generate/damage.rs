@@ -30,6 +30,7 @@ pub fn damage(random: &mut Random, table: &mut Vec<u32>) {
         0 | 1 => end_in_expression(random, table),
         2..=4 => name_another(random, table),
         5 => forget_children(random, table),
+        6 => name_often(random, table),
         _ => {}
     }
     if random.once_in(12) {
@@ -131,6 +132,24 @@ fn name_another(random: &mut Random, table: &mut [u32]) {
         if others.len() > 1 {
             table[4 * node + slot] = random.pick(&others) as u32;
             return;
+        }
+    }
+}
+
+/// Number 8 at any node of a large table: one node is named once, twice or three times more, in the place of others, which nobody
+/// names then. Now and then only children above it lose their name, so that it is the lowest of all.
+pub fn name_often(random: &mut Random, table: &mut [u32]) {
+    let last = table.len() / 4 - 1;
+    let target = if random.once_in(3) { last - random.below(last.min(40) + 1) } else { random.below(last + 1) };
+    let lowest = random.once_in(2);
+    let mut words: Vec<usize> = (target + 1..=last)
+        .flat_map(|node| child_slots(table[4 * node]).into_iter().map(move |slot| 4 * node + slot))
+        .filter(|&word| class_wanted(table, word / 4, word % 4) == class_of(table[4 * target]))
+        .filter(|&word| !lowest || table[word] as usize > target)
+        .collect();
+    for _ in 0..random.from(1, 3) {
+        if !words.is_empty() {
+            table[words.swap_remove(random.below(words.len()))] = target as u32;
         }
     }
 }

@@ -176,6 +176,17 @@ fn deep_statement(random: &mut Random, depth: usize) -> Tree {
     }
 }
 
+/// A statement of this depth with shallow ones beside its path, so many that it has about `nodes` nodes.
+pub fn deep_and_wide(random: &mut Random, depth: usize, nodes: usize) -> Tree {
+    let path = deep(random, Class::Statement, depth - 1);
+    let beside = wide(random, nodes.saturating_sub(path.nodes() + 1).max(3));
+    if random.once_in(2) {
+        sequence(path, beside)
+    } else {
+        sequence(beside, path)
+    }
+}
+
 /// A shallow statement of exactly this many nodes, at least 3.
 pub fn wide(random: &mut Random, nodes: usize) -> Tree {
     let mut pieces = vec![skip()];

@@ -1,0 +1,3 @@
+-- The laws of a word's bits, and that the contracts admit one answer.
+pub mod BitLaws
+pub mod Determined

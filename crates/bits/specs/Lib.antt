@@ -1,0 +1,2 @@
+-- What a bit of a word is.
+pub mod Bit
