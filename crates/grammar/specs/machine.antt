@@ -1,0 +1,4 @@
+-- The machine that reads.
+pub mod Reader
+pub mod Bytes
+pub mod Answer
