@@ -12,6 +12,7 @@ use Rattle.code.specs.CodeRun.{codeRun}
 use Rattle.depot.specs.Depot.{Lent, depot}
 use Rattle.reading.specs.Reading.{reading}
 use Rattle.writing.specs.Writing.{writing}
+use Rattle.rule.specs.ReadingRule.{readingRule}
 
 -- the table check lends nothing to be altered
 unfoldable pub checkCall : List ℕ → List ℕ
@@ -37,3 +38,7 @@ readCall b room = ended (textWords (reading 4 b room .answer)) (reading 4 b room
 
 unfoldable pub writeCall : List ℕ → List ℕ → Ended (List ℕ) (List ℕ)
 writeCall ws room = ended (textWords (writing 4 ws room .answer)) (writing 4 ws room .after)
+
+-- 02, A4: a rule as a planner types it, read into its table
+unfoldable pub ruleCall : List ℕ → List ℕ → Ended (List ℕ) (List ℕ)
+ruleCall text room = ended (textWords (readingRule text room .answer)) (readingRule text room .after)

@@ -2,7 +2,7 @@
 ghost use mathlib.Core.Path.{_≡_};
 ghost use Rattle.rules.specs.Answer.{eight, ended, refused, checkedWords, compiledWords, sourceRunWords, codeRunWords, textWords};
 ghost use Rattle.depot.specs.Depot.{lent};
-ghost use Rattle.boundary.specs.Calls.{checkCall, compileCall, sourceCall, codeCall, depotCall, readCall, writeCall};
+ghost use Rattle.boundary.specs.Calls.{checkCall, compileCall, sourceCall, codeCall, depotCall, readCall, writeCall, ruleCall};
 use rules::Checked;
 use rules::CodeRun;
 use rules::Compiled;
@@ -149,4 +149,12 @@ pub extern "C" fn rill_write_text(words: &[u32], room: &mut [u8], answer: &mut [
 {
     let written = writing::write_text(words, room);
     tell_text(written, answer);
+}
+
+#[no_mangle]
+pub extern "C" fn rill_read_rule(text: &[u8], room: &mut [u32], answer: &mut [u32; 8])
+    ensures { λ _. ⌜ ended (now (answer .exit)) (now (room .exit)) ≡ ruleCall (now (text .entry)) (now (room .entry)) ⌝ }
+{
+    let read = rule::read_rule(text, room);
+    tell_text(read, answer);
 }
