@@ -155,6 +155,6 @@ pub extern "C" fn rill_write_text(words: &[u32], room: &mut [u8], answer: &mut [
 pub extern "C" fn rill_read_rule(text: &[u8], room: &mut [u32], answer: &mut [u32; 8])
     ensures { λ _. ⌜ ended (now (answer .exit)) (now (room .exit)) ≡ ruleCall (now (text .entry)) (now (room .entry)) ⌝ }
 {
-    let read = rule::read_rule(text, room);
-    tell_text(read, answer);
+    let typed = rule::read_rule(text, room);
+    tell_text(typed, answer);
 }

@@ -51,13 +51,13 @@ use Rattle.promises.specs.Demand3.{Verdicts, answers, words, Together, F
 -- ---- "only if" follows from the rest: whether there is an evaluation within n is decided
 
 -- a finish is told as no other verdict, and tells its steps
-record Plain {Code Source : Type 0} (tells : Verdicts Code Source) : Type 0 where
-  code-apart : {ℓ k ℓ′ k′ : ℕ} → tells .code-finished ℓ k ≡ tells .code-out ℓ′ k′ → ⊥
-  code-steps : {ℓ k ℓ′ k′ : ℕ} → tells .code-finished ℓ k ≡ tells .code-finished ℓ′ k′ → k ≡ k′
-  source-apart : {k k′ : ℕ} → tells .source-finished k ≡ tells .source-out k′ → ⊥
-  source-steps : {k k′ : ℕ} → tells .source-finished k ≡ tells .source-finished k′ → k ≡ k′
+pub record Plain {Code Source : Type 0} (tells : Verdicts Code Source) : Type 0 where
+  pub code-apart : {ℓ k ℓ′ k′ : ℕ} → tells .code-finished ℓ k ≡ tells .code-out ℓ′ k′ → ⊥
+  pub code-steps : {ℓ k ℓ′ k′ : ℕ} → tells .code-finished ℓ k ≡ tells .code-finished ℓ′ k′ → k ≡ k′
+  pub source-apart : {k k′ : ℕ} → tells .source-finished k ≡ tells .source-out k′ → ⊥
+  pub source-steps : {k k′ : ℕ} → tells .source-finished k ≡ tells .source-finished k′ → k ≡ k′
 
-plain-answers : Plain answers
+pub plain-answers : Plain answers
 plain-answers = record {
   code-apart = λ {ℓ} {k} {ℓ′} {k′} e. let z : _≡_ {A = ℕ} 0 1 = cc in omega arith;
   code-steps = λ {ℓ} {k} {ℓ′} {k′} e. let h : halt ℓ k ≡ halt ℓ′ k′ = cc in ap (λ x. x .steps) h;
@@ -65,7 +65,7 @@ plain-answers = record {
   source-steps = λ {k} {k′} e. cc;
 }
 
-plain-words : Plain words
+pub plain-words : Plain words
 unfolding codeRunWords sourceRunWords
 plain-words = record {
   code-apart = λ {ℓ} {k} {ℓ′} {k′} e. let z : _≡_ {A = ℕ} 1 2 = cc in omega arith;
