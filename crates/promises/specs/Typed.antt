@@ -40,9 +40,12 @@ pub data Refuses (text : List ℕ) (room : ℕ) : Refusal → Type 0 where
 
 -- ---- what a run does
 
--- the While rules give no evaluation of the tree p from σ whose count is at most n
-abbrev pub NoneWithin : Rule → Store → ℕ → Type 0
-NoneWithin p σ n = {k : ℕ} {τ : Store} → Evaluates p σ k τ → k ≤ n → ⊥
+-- the While rules give an evaluation of the tree p from σ whose count is at most n
+pub record EvaluatesWithin (p : Rule) (σ : Store) (n : ℕ) : Type 0 where
+  pub steps : ℕ
+  pub store : Store
+  pub evaluation : Evaluates p σ steps store
+  pub within : steps ≤ n
 
 -- a source run follows the While rules of the tree p: it finishes exactly if they give an evaluation from σ whose count is at most n, with that
 -- count and store; otherwise it is out of fuel after n, and the store has exactly the assignments among the first n units
@@ -50,7 +53,7 @@ pub record SourceFollows {Code Source : Type 0} (tells : Verdicts Code Source) (
     : Type 0 where
   pub finishes-if : {k : ℕ} {τ : Store} → Evaluates p σ k τ → k ≤ n → (source ≡ tells .source-finished k) × (σ′ ≡ τ)
   pub finishes-only-if : {k : ℕ} → source ≡ tells .source-finished k → Evaluates p σ k σ′ × (k ≤ n)
-  pub otherwise : NoneWithin p σ n → (source ≡ tells .source-out n) × Unfinished p σ n σ′
+  pub otherwise : (EvaluatesWithin p σ n → ⊥) → (source ≡ tells .source-out n) × Unfinished p σ n σ′
 
 -- demand 3 over the tree that was typed, of the code that its table compiled to and of the source run: `Demand-3` with the While rules of the tree
 pub record TypedDemand-3 {Code Source : Type 0} (tells : Verdicts Code Source) (p : Rule) (start end : ℕ) (σ : Store) (n : ℕ)
@@ -58,4 +61,4 @@ pub record TypedDemand-3 {Code Source : Type 0} (tells : Verdicts Code Source) (
   pub finishes-if : {k : ℕ} {τ : Store} → Evaluates p σ k τ → k ≤ n → Finished tells (tableOf p) start end σ n code σ′ source σ″ k τ
   pub code-finishes-only-if : {label k : ℕ} → code ≡ tells .code-finished label k → Evaluates p σ k σ′ × (k ≤ n)
   pub source-finishes-only-if : {k : ℕ} → source ≡ tells .source-finished k → Evaluates p σ k σ″ × (k ≤ n)
-  pub otherwise : NoneWithin p σ n → OutOfFuel tells (tableOf p) start end σ n code σ′ source σ″ × Unfinished p σ n σ′
+  pub otherwise : (EvaluatesWithin p σ n → ⊥) → OutOfFuel tells (tableOf p) start end σ n code σ′ source σ″ × Unfinished p σ n σ′
