@@ -12,8 +12,8 @@ ghost use Rattle.lister.specs.Listing.{refusalLine, listingOf, listing, 
 // The bytes of an instruction's line: eight digits a word, and the newline.
 const LINE: usize = 8 * WIDTH + 1;
 
-// The line of a refusal.
-fn refused(r: Refusal, out: &mut [u8; 33792]) -> usize
+// Writes the line of a refusal to the front of out. Answers how many bytes it is.
+pub fn refused(r: Refusal, out: &mut [u8; 33792]) -> usize
     ensures { λ n. ⌜ Listed (refusalLine r) (now (out .entry)) (now (out .exit)) n ⌝ }
 {
     let pair = [r.number, r.place];

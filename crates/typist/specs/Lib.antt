@@ -1,0 +1,2 @@
+-- What the table text of a typed rule is.
+pub mod TableText
