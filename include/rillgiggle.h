@@ -10,7 +10,7 @@
  *
  * A table is four words a node: kind, p, q, r. Code is four words an instruction: label, operation, x, y.
  *
- * Example: the rule "v1 := 7" as a table, compiled at label 1, and its code run.
+ * Example: the rule "v1 := 7" as a table, which rill_read_rule makes of that text, compiled at label 1, and its code run.
  *
  *   uint32_t table[8] = { 1, 7, 0, 0,                                            node 0: the number 7
  *                         33, 1, 0, 0 };                                         node 1: v1 := node 0
@@ -64,7 +64,8 @@ enum {
 enum { RILL_CREW_FINISHED = 0, RILL_CREW_OUT_OF_FUEL = 1 };
 
 /* Refusals, with their places. Every call that takes a table may give 1 to 9; which others, is said at each call.
- * Numbers 2 to 6 go node by node from 0, the lowest number at a node first; otherwise the lowest number wins.
+ * Numbers 2 to 6 go node by node from 0, the lowest number at a node first; otherwise the lowest number wins, but for
+ * 17, which comes before all others.
  *    1  table words not a multiple of 4, none, or over 4,096                     0
  *    2  unknown kind                                                             node
  *    3  an unused word is not 0                                                  node
@@ -84,6 +85,8 @@ enum { RILL_CREW_FINISHED = 0, RILL_CREW_OUT_OF_FUEL = 1 };
  *       in writing: words not a multiple of 4, or over 4,096                     the lesser of 1,024 and the whole frames
  *   15  room too small for the words or bytes                                    0
  *   16  depot: room under three words a crew                                     0
+ *   17  typed rule: not in the grammar                                           the length of its longest beginning that
+ *                                                                                begins a rule (4,294,967,295 at most)
  */
 
 /* Checks a table. Done, or refused 1 to 9. Writes nothing but the answer. */
@@ -124,6 +127,21 @@ void rill_read_text(const uint8_t *text, size_t text_bytes, uint32_t *room, size
 /* Writes words as such text into the front of room: 33 bytes for four words, and no byte 0 at the end.
  * Done: AMOUNT is the bytes written. Refused 14, 15. */
 void rill_write_text(const uint32_t *words, size_t words_count, uint8_t *room, size_t room_bytes, uint32_t answer[8]);
+
+/* Reads a rule as a planner types it into the front of room, as the table that the other calls take: four words a node, and
+ * 4,096 words always suffice.
+ *
+ *   rule       one or more statements, with ; between them
+ *   statement  skip, or v7 := sum, or if test then rule else rule end, or while test do rule end
+ *   sum        + and - below * / and %, all grouping to the left, over whole numbers 0 to 2147483647 without leading zeros,
+ *              v0 to v31, (sum) and choose(test, sum, sum)
+ *   test       parts joined by and, to the left; a part is true, false, sum = sum, sum <= sum, sum < sum or [test], or one
+ *              of these with not before it
+ *
+ * Blanks (byte 32) and newlines (byte 10) may stand around words and signs, and must part two words. Brackets, chooses, ifs
+ * and whiles nest at most 256 deep.
+ * Done: AMOUNT is the words written. Refused 17, then 1 (over 1,024 nodes), 9, 15. */
+void rill_read_rule(const uint8_t *text, size_t text_bytes, uint32_t *room, size_t room_words, uint32_t answer[8]);
 
 #ifdef __cplusplus
 }
