@@ -1,4 +1,4 @@
-/* The seven calls from C: the listing rule of document 01 and its documented answers, other worked runs, each verdict, and what a
+/* The eight calls from C: the listing rule of document 01 and its documented answers, other worked runs, each verdict, and what a
  * refusal and a success leave alone. Every answer and every buffer is compared whole. */
 #include <stdio.h>
 #include <string.h>
@@ -289,6 +289,60 @@ static void text(void)
     bytes_hold("write: refused, room as it was", code_text, 0);
 }
 
+static void reads_rule(const char *what, const char *typed, size_t words, uint32_t verdict, uint32_t number, uint32_t place,
+                       uint32_t amount)
+{
+    stale();
+    rill_read_rule((const uint8_t *)typed, strlen(typed), room, words, answer);
+    tells(what, verdict, number, place, 0, amount);
+}
+
+/* p inside so many brackets */
+static const char *bracketed(const char *before, size_t brackets, const char *p, const char *after)
+{
+    static char all[4096];
+    size_t i;
+    strcpy(all, before);
+    for (i = 0; i < brackets; i++) strcat(all, "(");
+    strcat(all, p);
+    for (i = 0; i < brackets; i++) strcat(all, ")");
+    return strcat(all, after);
+}
+
+static void rules(void)
+{
+    static char many[8192];
+    size_t i;
+
+    reads_rule("rule: listing", "while 0 < v0 do v0 := v0 - 60; v1 := v1 + 1 end", 64, RILL_DONE, 0, 0, 52);
+    room_holds("rule: its table", listing, 52);
+    reads_rule("rule: exact room, blanks and newlines", "\n while 0<v0 do\nv0:=v0-60;v1:=v1+1 end \n", 52, RILL_DONE, 0, 0, 52);
+    room_holds("rule: the same table", listing, 52);
+    reads_rule("rule: room too small", "while 0 < v0 do v0 := v0 - 60; v1 := v1 + 1 end", 51, RILL_REFUSED, 15, 0, 0);
+    room_holds("rule: room as it was", listing, 0);
+    reads_rule("rule: no text", "", 64, RILL_REFUSED, 17, 0, 0);
+    reads_rule("rule: a word too long", "skipx", 64, RILL_REFUSED, 17, 4, 0);
+    reads_rule("rule: variable 32", "v32 := 0", 64, RILL_REFUSED, 17, 2, 0);
+    reads_rule("rule: a number too great", "v0 := 2147483648", 64, RILL_REFUSED, 17, 15, 0);
+    reads_rule("rule: becomes in two", "v0 : = 1", 64, RILL_REFUSED, 17, 4, 0);
+    reads_rule("rule: else left out", "if true then skip end", 64, RILL_REFUSED, 17, 19, 0);
+    reads_rule("rule: stops too early", "v0 := 1;", 64, RILL_REFUSED, 17, 8, 0);
+    reads_rule("rule: carriage return", "skip;\r\nskip", 64, RILL_REFUSED, 17, 5, 0);
+    room_holds("rule: room as it was at 17", listing, 0);
+    reads_rule("rule: 256 brackets", bracketed("v0 := ", 256, "7", ""), 64, RILL_DONE, 0, 0, 8);
+    reads_rule("rule: 257 brackets", bracketed("v0 := ", 257, "7", ""), 64, RILL_REFUSED, 17, 262, 0);
+    /* 513 skips are 1,025 nodes; their row is over 256 deep too */
+    strcpy(many, "skip");
+    for (i = 1; i < 513; i++) strcat(many, ";skip");
+    reads_rule("rule: 1,025 nodes", many, 64, RILL_REFUSED, 1, 0, 0);
+    strcat(many, ";");
+    reads_rule("rule: 1,025 nodes, out of the grammar", many, 64, RILL_REFUSED, 17, 2565, 0);
+    many[4 + 5 * 256] = 0;
+    reads_rule("rule: depth 257", many, 64, RILL_REFUSED, 9, 0, 0);
+    many[4 + 5 * 255] = 0;
+    reads_rule("rule: depth 256, no room", many, 64, RILL_REFUSED, 15, 0, 0);
+}
+
 int main(void)
 {
     checking();
@@ -299,6 +353,7 @@ int main(void)
     running_depots();
     header_example();
     text();
+    rules();
     printf("%u passed, %u failed\n", passed, failed);
     return failed != 0;
 }
