@@ -24,8 +24,8 @@ use Rattle.rules.specs.declared.Refusal.{Refusal}
 use Rattle.rules.specs.declared.Checked.{Checked}
 use Rattle.rules.specs.declared.SourceRun.{SourceRun}
 use Rattle.rules.specs.declared.Text.{Text}
-use Rattle.rules.proofs.ListLaws.{orElse-none, take-sets, drop-sets}
-use Rattle.rules.proofs.EndedLaws.{answer-is, after-is, text-carries, was-refused, text-done}
+use Rattle.rules.proofs.ListLaws.{refuse-none, orElse-none, take-sets, drop-sets}
+use Rattle.rules.proofs.EndedLaws.{answer-is, after-is, ends-unrefused, text-carries, was-refused, text-done}
 use Rattle.rules.proofs.WhileLaws as while-laws
 use Rattle.rules.proofs.WhileLaws.{evaluated, unfinished, says, finds, within?}
 use Rattle.grammar.specs.Rule.{Rule}
@@ -35,7 +35,7 @@ use Rattle.grammar.specs.Typed.{tableAnswer, Answers, outside, refused, accepte
 use Rattle.grammar.specs.Evaluation.{Evaluates, Unfinished, Follows}
 use Rattle.grammar.specs.machine.Answer.{typedRefusal, typedWords}
 use Rattle.grammar.proofs.bytes.OneReading.{one-reading}
-use Rattle.grammar.proofs.table.Answering.{answers}
+use Rattle.grammar.proofs.table.Answering.{answers, one-answer}
 use Rattle.grammar.proofs.table.TypedRefusals.{typed-refusal}
 use Rattle.grammar.proofs.table.Follows.{follows}
 use Rattle.table.specs.Checking.{answer, checking}
@@ -65,7 +65,7 @@ use Rattle.promises.proofs.Demand3.{Plain, plain-answers, plain-words}
 
 -- of a text that is in the grammar: its table passes 01 and fits the room, or it is refused 1, 9 or 15
 data Weighed (p : Rule) (room : ℕ) : Option Refusal → Type 0 where
-  passes : size (ruleNode p) ≤ 1024 → depth (ruleNode p) ≤ 256 → length (tableOf p) ≤ room → Weighed p room none
+  fits-all : size (ruleNode p) ≤ 1024 → depth (ruleNode p) ≤ 256 → length (tableOf p) ≤ room → Weighed p room none
   too-many : 1024 < size (ruleNode p) → Weighed p room (some (refusal 1 0))
   too-deep : size (ruleNode p) ≤ 1024 → 256 < depth (ruleNode p) → Weighed p room (some (refusal 9 0))
   too-long : size (ruleNode p) ≤ 1024 → depth (ruleNode p) ≤ 256 → room < length (tableOf p) → Weighed p room (some (refusal 15 0))
@@ -76,7 +76,7 @@ unfolding refuse _orElse_
 by-tests p room true c d e f g = too-many (ltb-true _ _ e)
 by-tests p room false true d e f g = too-deep (ltb-false _ _ e) (ltb-true _ _ f)
 by-tests p room false false true e f g = too-long (ltb-false _ _ e) (ltb-false _ _ f) (ltb-true _ _ g)
-by-tests p room false false false e f g = passes (ltb-false _ _ e) (ltb-false _ _ f) (ltb-false _ _ g)
+by-tests p room false false false e f g = fits-all (ltb-false _ _ e) (ltb-false _ _ f) (ltb-false _ _ g)
 
 weighed : {text : List ℕ} {p : Rule} → InGrammar text p → (room : ℕ) → Weighed p room (tableAnswer (tableOf p) room)
 unfolding tableAnswer
@@ -89,28 +89,24 @@ some-same : {r q : Refusal} → some r ≡ some q → r ≡ q
 some-same e = cc
 
 module _ (text room after : List ℕ) where
-  accepting : (p : Rule) → InGrammar text p → {o : Option Refusal} → Weighed p (length room) o → o ≡ none
-      → (n : ℕ) → n ≡ length (tableOf p) → after ≡ sets room 0 (tableOf p) → Accepts text room n after
-  accepting p g (passes few shallow enough) e n words left = record {
-    rule = p;
-    typed = g;
-    only = λ q h. one-reading text h g;
-    few = few;
-    shallow = shallow;
-    words = words;
-    enough = rw words enough;
-    front = rw (words, left) (take-sets (tableOf p) room enough);
-    rest = rw (words, left) (drop-sets (tableOf p) room enough);
-  }
-  accepting p g (too-many m) e n words left = absurd (never e)
-  accepting p g (too-deep m d) e n words left = absurd (never e)
-  accepting p g (too-long m d l) e n words left = absurd (never e)
-
   by-answer : {o : Option Refusal} {ws : List ℕ} → Answers text (length room) o ws → o ≡ none
       → (n : ℕ) → n ≡ length ws → after ≡ sets room 0 ws → Accepts text room n after
+  unfolding tableAnswer
   by-answer (outside not-in k) e n words left = absurd (never e)
   by-answer (refused g q) e n words left = absurd (never e)
-  by-answer (accepted {r = p} g q) e n words left = accepting p g (weighed g (length room)) q n words left
+  by-answer (accepted {r = p} g q) e n words left =
+      let both = orElse-none _ _ q in
+      let enough : length (tableOf p) ≤ length room = ltb-false _ _ (refuse-none _ 15 0 (both .1)) in
+      record {
+        rule = p;
+        typed = g;
+        only = λ r h. one-reading text h g;
+        passes = both .0;
+        words = words;
+        fits = rw words enough;
+        front = rw (words, left) (take-sets (tableOf p) room enough);
+        rest = rw (words, left) (drop-sets (tableOf p) room enough);
+      }
 
   read-done : (n : ℕ) → ended (Text.Done n) after ≡ readingRule text room → Accepts text room n after
   unfolding readingRule
@@ -118,8 +114,19 @@ module _ (text room after : List ℕ) where
       let is = text-done _ _ n room (typedWords text (length room)) after e in
       by-answer (answers text (length room)) (is .0) n (is .1) (is .2)
 
+  -- and it is done where it may be
+  read-unrefused : {p : Rule} → InGrammar text p → Accepted (tableOf p) → length (tableOf p) ≤ length room
+      → (x : Text) → ended x after ≡ readingRule text room → x ≡ Text.Done (length (tableOf p))
+  unfolding readingRule tableAnswer refuse _orElse_
+  read-unrefused {p} g ok enough x e =
+      let nothing : tableAnswer (tableOf p) (length room) ≡ none = rw (ok, le-ltb (length room) (length (tableOf p)) enough) in
+      let same = one-answer text (length room) (answers text (length room)) (accepted g nothing) in
+      let is : ended x after ≡ ended (Text.Done (length (tableOf p))) (sets room 0 (tableOf p)) =
+      e ∙ ends-unrefused _ _ _ _ (same .0) ∙ rw (same .1) refl in
+      answer-is is
+
   refusing : (p : Rule) → InGrammar text p → {o : Option Refusal} {q : Refusal} → Weighed p (length room) o → o ≡ some q → Refuses text (length room) q
-  refusing p g (passes few shallow enough) e = absurd (never (sym e))
+  refusing p g (fits-all few shallow enough) e = absurd (never (sym e))
   refusing p g {q = q} (too-many m) e = let same : q ≡ refusal 1 0 = cc in rw same (many g m)
   refusing p g {q = q} (too-deep m d) e = let same : q ≡ refusal 9 0 = cc in rw same (deep g m d)
   refusing p g {q = q} (too-long m d l) e = let same : q ≡ refusal 15 0 = cc in rw same (short g m d l)
@@ -138,13 +145,9 @@ module _ (text room after : List ℕ) where
 -- ---- the words that were written pass the check
 
 module _ {text room : List ℕ} {n : ℕ} {after : List ℕ} (read : Accepts text room n after) where
-  passed : Accepted (tableOf (read .rule))
-  unfolding refuse _orElse_
-  passed = rw (typed-refusal (read .typed), le-ltb 1024 _ (read .few), le-ltb 256 _ (read .shallow)) refl
-
   checked : (x : Checked) → x ≡ checking (take n after) → x ≡ Checked.Done
   unfolding checking answer
-  checked x e = e ∙ rw (read .front, passed) refl
+  checked x e = e ∙ rw (read .front, read .passes) refl
 
 -- ---- a run follows the While rules of the tree that was typed
 
@@ -219,7 +222,7 @@ module _ {text room : List ℕ} {n : ℕ} {after : List ℕ} (read : Accepts tex
   same-as-tree = rw table-is (follows g)
 
   written-passes : Accepted (take n after)
-  written-passes = rw (read .front) (passed read)
+  written-passes = rw (read .front) (read .passes)
 
 -- ---- on the contracts of the public functions
 
@@ -227,6 +230,10 @@ module _ {text room : List ℕ} {n : ℕ} {after : List ℕ} (read : Accepts tex
 module _ (κs : Lfts 2) (a : Dens κs rule-kinds.ps) (s : AtExit (endedOf 2 rule-kinds.ps rule-kinds.r) κs) where
   pub read-rule-accepts : (n : ℕ) → rule-reads.Post κs a (Text.Done n) s → Accepts (now (a .0)) (now (a .1 .0)) n (now (s .1 .0))
   read-rule-accepts n met = read-done _ _ _ n met
+
+  pub read-rule-accepts-if : {p : Rule} → InGrammar (now (a .0)) p → Accepted (tableOf p) → length (tableOf p) ≤ length (now (a .1 .0))
+      → (x : Text) → rule-reads.Post κs a x s → x ≡ Text.Done (length (tableOf p))
+  read-rule-accepts-if g ok fits x met = read-unrefused _ _ _ g ok fits x met
 
   pub read-rule-refuses : (q : Refusal) → rule-reads.Post κs a (Text.Refused q) s
       → Refuses (now (a .0)) (length (now (a .1 .0))) q × (now (s .1 .0) ≡ now (a .1 .0))
@@ -279,6 +286,13 @@ module _ (κs : Lfts 3) (a : Dens κs rill-rule-kinds.ps) (s : AtExit (endedOf 3
   pub read-rule-accepts-in-words : (n : ℕ) → now (s .1 .1 .0) ≡ textWords (Text.Done n)
       → Accepts (now (a .0)) (now (a .1 .0)) n (now (s .1 .0))
   read-rule-accepts-in-words n words = read-done _ _ _ n (answered _ words)
+
+  pub read-rule-accepts-if-in-words : {p : Rule} → InGrammar (now (a .0)) p → Accepted (tableOf p) → length (tableOf p) ≤ length (now (a .1 .0))
+      → now (s .1 .1 .0) ≡ textWords (Text.Done (length (tableOf p)))
+  unfolding ruleCall
+  read-rule-accepts-if-in-words g ok fits =
+      let call = readingRule (now (a .0)) (now (a .1 .0)) in
+      answer-is met ∙ ap textWords (read-unrefused (now (a .0)) (now (a .1 .0)) (now (s .1 .0)) g ok fits (call .answer) (rw (after-is met) refl))
 
   pub read-rule-refuses-in-words : (q : Refusal) → now (s .1 .1 .0) ≡ textWords (Text.Refused q)
       → Refuses (now (a .0)) (length (now (a .1 .0))) q × (now (s .1 .0) ≡ now (a .1 .0))

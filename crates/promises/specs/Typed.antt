@@ -6,6 +6,7 @@ use Prim.Native.Nat.{ℕ, _<_, _≤_}
 use lib.ListN.{length, take, drop}
 use Rattle.rules.specs.Expression.{Store}
 use Rattle.rules.specs.Refusal.{refusal}
+use Rattle.rules.specs.Table.{Accepted}
 use Rattle.rules.specs.declared.Refusal.{Refusal}
 use Rattle.grammar.specs.Rule.{Rule}
 use Rattle.grammar.specs.Layout.{InGrammar, Longest}
@@ -22,10 +23,9 @@ pub record Accepts (text room : List ℕ) (n : ℕ) (after : List ℕ) : Type 0 
   pub rule : Rule
   pub typed : InGrammar text rule
   pub only : (p : Rule) → InGrammar text p → p ≡ rule
-  pub few : size (ruleNode rule) ≤ 1024
-  pub shallow : depth (ruleNode rule) ≤ 256
+  pub passes : Accepted (tableOf rule)
   pub words : n ≡ length (tableOf rule)
-  pub enough : n ≤ length room
+  pub fits : n ≤ length room
   pub front : take n after ≡ tableOf rule
   pub rest : drop n after ≡ drop n room
 

@@ -1,5 +1,5 @@
 -- `typed` before `listing`: what the one writes of a typed rule the other lists as the rule's table.
-use mathlib.Core.Path.{_≡_, refl, _∙_}
+use mathlib.Core.Path.{_≡_, _∙_}
 use mathlib.Core.List.{List}
 use mathlib.Core.Option.{none}
 use Prim.Native.Nat.{ℕ, _*_, _≤_}
@@ -14,9 +14,9 @@ use Rattle.rules.proofs.TextLaws.{text-accepted, good-textOf, wordsOfText-textO
 use Rattle.grammar.specs.Rule.{Rule}
 use Rattle.grammar.specs.Layout.{InGrammar}
 use Rattle.grammar.specs.Written.{ruleNode, size, tableOf}
-use Rattle.grammar.specs.Typed.{tableAnswer}
-use Rattle.grammar.specs.machine.Answer.{refusalOf, wordsUnless, tableOfRead, typedRefusal, typedWords}
-use Rattle.grammar.proofs.bytes.OneReading.{in-grammar-read}
+use Rattle.grammar.specs.Typed.{tableAnswer, accepted}
+use Rattle.grammar.specs.machine.Answer.{typedRefusal, typedWords}
+use Rattle.grammar.proofs.table.Answering.{answers, one-answer}
 use Rattle.grammar.proofs.table.TypedRefusals.{table-length}
 use Rattle.lister.specs.Listing.{lineOr, listingOf, listing}
 use Rattle.lister.proofs.Rooms.{reading-room}
@@ -27,18 +27,18 @@ module _ {text : List ℕ} {p : Rule} (g : InGrammar text p) (passes : Accepted 
   few : size (ruleNode p) ≤ 1024
   few = let f = accepted-facts (tableOf p) passes in omega (arith, f .whole, f .few, table-length p)
 
-  unrefused : typedRefusal text 4096 ≡ none
-  unfolding typedRefusal refusalOf tableAnswer refuse _orElse_
-  unrefused = rw (in-grammar-read text g, passes, le-ltb 4096 (length (tableOf p)) (omega (arith, few, table-length p)))
-
-  words-are : typedWords text 4096 ≡ tableOf p
-  unfolding typedWords wordsUnless tableOfRead
-  words-are = rw (unrefused, in-grammar-read text g)
+  -- nothing is refused, and the words are the table's
+  read-whole : (typedRefusal text 4096 ≡ none) × (typedWords text 4096 ≡ tableOf p)
+  unfolding tableAnswer refuse _orElse_
+  read-whole =
+      let enough : length (tableOf p) ≤ 4096 = omega (arith, few, table-length p) in
+      let nothing : tableAnswer (tableOf p) 4096 ≡ none = rw (passes, le-ltb 4096 (length (tableOf p)) enough) in
+      one-answer text 4096 (answers text 4096) (accepted g nothing)
 
   -- the text of an accepted rule is the text of its table
   pub typed-text : typedText text ≡ textOf 4 (tableOf p)
   unfolding typedText lineOr
-  typed-text = rw (unrefused, words-are)
+  typed-text = rw (read-whole .0, read-whole .1)
 
   -- and its listing is that table's
   pub typed-listed : listing (typedText text) ≡ listingOf (tableOf p)
