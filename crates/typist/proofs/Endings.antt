@@ -23,7 +23,8 @@ use Rattle.rule.specs.ReadingRule.{readingRule}
 use Rattle.writing.specs.Writing.{writing}
 use Rattle.lister.specs.Listing.{lineOr, refusalLine, Listed}
 use Rattle.lister.proofs.Endings.{text-listed}
-use Rattle.typist.specs.TableText.{typedText, Frames}
+use Rattle.typist.specs.TableText.{typedText}
+use Rattle.typist.specs.inside.Frames.{Frames}
 
 -- ---- writing
 

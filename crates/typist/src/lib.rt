@@ -1,11 +1,10 @@
 // The work of the program `typed`: a rule as a planner types it in, the text of its table out, or the line of a refusal.
 use rules::Text;
-ghost use Prim.Native.Nat.{_*_, _≤_};
-ghost use mathlib.Core.Path.{_≡_};
-ghost use lib.ListN.{length, take};
+ghost use lib.ListN.{take};
 ghost use Rattle.rules.specs.Text.{textOf};
 ghost use Rattle.lister.specs.Listing.{Listed};
-ghost use Rattle.typist.specs.TableText.{typedText, Frames};
+ghost use Rattle.typist.specs.TableText.{typedText};
+ghost use Rattle.typist.specs.inside.Frames.{Frames};
 
 // The text of the first n words, four to a line of 33 bytes.
 fn write_lines(words: &[u32], n: u32, out: &mut [u8; 33792]) -> usize
