@@ -84,6 +84,13 @@ fn read(text: &[u8], n: usize) {
     show::words(&words, n);
 }
 
+// The same of a typed rule.
+fn read_rule(text: &[u8], n: usize) {
+    let mut words = [0xaaaaaaaa; 4100];
+    show::text(rule::read_rule(text, parts::word_room(&mut words, n)));
+    show::words(&words, n);
+}
+
 fn read_front(lines: &[u8; 33825], n: usize) {
     read(parts::bytes(lines, 0, n), 4100);
 }
@@ -122,6 +129,7 @@ pub(crate) fn call(kind: u8, table: &[u32], instructions: &[u32], below: &[u8], 
         b'o' => own_code(table, given),
         b'd' => depot(table, instructions, given),
         b'r' => read(parts::bytes(below, 0, first), second),
+        b'p' => read_rule(parts::bytes(below, 0, first), second),
         b'z' => read_zeros(first),
         b'w' => write(table, first),
         b'l' => list(parts::bytes(below, 0, first)),

@@ -82,7 +82,7 @@ fn line(text: &[u8], next: usize, place: Place, words: &mut Words) -> Laid {
     if colon <= start {
         return lay(kind, line, words, laid);
     }
-    if kind != b'#' {
+    if (kind != b'#') & (kind != b' ') {
         title(kind, parts::bytes(line, 2, colon - start));
         let below = parts::bytes(text, next, text.len());
         call(kind, parts::bytes(text, colon, next), below, words, laid);
