@@ -1,9 +1,9 @@
-//! What must hold between calls: text written is read back, compiled code follows its source, and a depot is its crews
-//! run one by one.
+//! What must hold between calls: text written is read back, compiled code follows its source, a depot is its crews run one
+//! by one, and a typed rule is its program.
 
 use crate::calls::Calls;
 use crate::case::Case;
-use crate::generate::{codes, programs, shuffle, store, stores, texts};
+use crate::generate::{codes, programs, rules, shuffle, store, stores, texts};
 use crate::guarded::Guarded;
 use crate::oracle::answer::{DONE, FINISHED};
 use crate::oracle::depot::ROW;
@@ -33,17 +33,42 @@ pub fn code_follows_source(calls: &Calls, random: &mut Random) -> Result<(), Str
     let (start, fuel) = (random.below(60_000) as u32, random.below(300) as u32);
 
     let mut guarded = Guarded::new(calls, size);
-    let (compiled, mut code) = guarded.compile(&table, start, &[0; 4096]);
-    code.truncate(4 * compiled[4] as usize);
-    let (ran, by_code) = guarded.run_code(&table, &code, start, &store, fuel);
-    let (evaluated, by_source) = guarded.run_source(&table, &store, fuel);
-
-    let runs_agree = (ran[0], ran[4], by_code) == (evaluated[0], evaluated[4], by_source);
-    let ends_agree = ran[0] != FINISHED || ran[3] == compiled[3];
-    if compiled[0] == DONE && runs_agree && ends_agree && guarded.trespasses().is_empty() {
+    let (follows, code) = runs_agree(&mut guarded, &table, start, &store, fuel);
+    if follows && guarded.trespasses().is_empty() {
         return Ok(());
     }
     Err(format!("compiled code does not follow its source: {}", Case::RunCode { table, code, start, store, fuel }))
+}
+
+/// Whether the table is compiled and both its runs end alike; with its code.
+fn runs_agree(guarded: &mut Guarded, table: &[u32], start: u32, store: &[i32], fuel: u32) -> (bool, Vec<u32>) {
+    let (compiled, mut code) = guarded.compile(table, start, &[0; 4096]);
+    code.truncate(4 * compiled[4] as usize);
+    let (ran, by_code) = guarded.run_code(table, &code, start, store, fuel);
+    let (evaluated, by_source) = guarded.run_source(table, store, fuel);
+    let runs_agree = (ran[0], ran[4], by_code) == (evaluated[0], evaluated[4], by_source);
+    let ends_agree = ran[0] != FINISHED || ran[3] == compiled[3];
+    (compiled[0] == DONE && runs_agree && ends_agree, code)
+}
+
+/// The table of a rule is that of the program it was typed from; it passes the check, and both its runs end alike.
+pub fn rule_is_its_program(calls: &Calls, random: &mut Random) -> Result<(), String> {
+    let size = random.from(1, 60);
+    let program = programs::statement(random, size);
+    let typed = rules::typed(random, &program);
+    let text = rules::text(random, &typed.tokens);
+    let store = store(random);
+    let (start, fuel) = (random.below(60_000) as u32, random.below(300) as u32);
+
+    let mut guarded = Guarded::new(calls, size);
+    let room = vec![0; typed.table.len()];
+    let (read, table) = guarded.read_rule(&text, &room);
+    let checked = guarded.check(&table);
+    let (runs, _) = runs_agree(&mut guarded, &table, start, &store, fuel);
+    if (read[0], &table, checked[0]) == (DONE, &typed.table, DONE) && runs && guarded.trespasses().is_empty() {
+        return Ok(());
+    }
+    Err(format!("a typed rule is not its program: {}", Case::ReadRule { text, room }))
 }
 
 /// "The whole must equal the crews run one by one": the same stores, and in the room what the runs answered.
