@@ -239,8 +239,9 @@ pub fn damage_byte(random: &mut Random, text: &mut Vec<u8>) {
 
 /// All tokens but numbers and variables, and some that are none.
 const TOKENS: [&str; 40] = [
-    "skip", "if", "then", "else", "end", "while", "do", "choose", "true", "false", "not", "and", "or", ";", ":=", "+", "-", "*",
-    "/", "%", "(", ")", "[", "]", ",", "=", "<=", "<", ">", "==", ":", "<>", "v0", "v31", "v32", "7", "0", "00", "v", "e",
+    "skip", "if", "then", "else", "end", "while", "do", "choose", "true", "false", "not", "and", "or", ";", ":=", "+",
+    "-", "*", "/", "%", "(", ")", "[", "]", ",", "=", "<=", "<", ">", "==", ":", "<>", "v0", "v31", "v32", "7", "0",
+    "00", "v", "e",
 ];
 
 /// One token dropped, doubled, another one, or two the other way round.
@@ -262,14 +263,40 @@ pub fn damage_token(random: &mut Random, tokens: &mut Vec<String>) {
 
 /// Numbers and variables at their limits and just over, some with more letters or digits behind.
 const EDGES: [&str; 28] = [
-    "0", "00", "01", "007", "9", "10", "2147483646", "2147483647", "2147483648", "2147483650", "2147483700", "2200000000",
-    "21474836470", "3000000000", "4294967295", "4294967296", "42949672960", "18446744073709551616", "v0", "v00", "v01", "v9",
-    "v31", "v32", "v40", "v310", "v4294967296", "1v0",
+    "0",
+    "00",
+    "01",
+    "007",
+    "9",
+    "10",
+    "2147483646",
+    "2147483647",
+    "2147483648",
+    "2147483650",
+    "2147483700",
+    "2200000000",
+    "21474836470",
+    "3000000000",
+    "4294967295",
+    "4294967296",
+    "42949672960",
+    "18446744073709551616",
+    "v0",
+    "v00",
+    "v01",
+    "v9",
+    "v31",
+    "v32",
+    "v40",
+    "v310",
+    "v4294967296",
+    "1v0",
 ];
 
 /// One number or variable gives way to one at the edge.
 pub fn to_the_edge(random: &mut Random, tokens: &mut [String]) {
-    let of_digits: Vec<usize> = (0..tokens.len()).filter(|&i| tokens[i].ends_with(|c: char| c.is_ascii_digit())).collect();
+    let of_digits: Vec<usize> =
+        (0..tokens.len()).filter(|&i| tokens[i].ends_with(|c: char| c.is_ascii_digit())).collect();
     if of_digits.is_empty() {
         return;
     }
