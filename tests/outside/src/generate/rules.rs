@@ -214,7 +214,7 @@ fn blanks(random: &mut Random, text: &mut Vec<u8>, least: usize, most: usize) {
     }
 }
 
-/// One fault in a byte: changed, dropped, doubled, put in, or two of them the other way round.
+/// One fault in a byte: changed, made a capital, dropped, doubled, put in, or two of them the other way round.
 pub fn damage_byte(random: &mut Random, text: &mut Vec<u8>) {
     const STRAY: &[u8] = b" \n\r\t\0\x0b\x80\xff;:=<()[],+-*/%0123456789abcdefhiklnoprstuvwAVS_.>!{}";
     let any = random.word() as u8;
@@ -223,13 +223,14 @@ pub fn damage_byte(random: &mut Random, text: &mut Vec<u8>) {
         return text.push(stray);
     }
     let place = random.below(text.len());
-    match random.below(6) {
+    match random.below(7) {
         0 | 1 => text[place] = stray,
         2 => {
             text.remove(place);
         }
         3 => text.insert(place, text[place]),
         4 => text.insert(place, stray),
+        5 => text[place].make_ascii_uppercase(),
         _ => {
             let next = (place + 1).min(text.len() - 1);
             text.swap(place, next);

@@ -76,6 +76,7 @@ fn places_in_words() -> Vec<Worked> {
     vec![
         stops("skipx", 4),
         stops("Skip", 0),
+        stops("skIp", 2),
         stops("skip skip", 5),
         stops("v32 := 1", 2),
         stops("v01 := 1", 2),
@@ -142,6 +143,7 @@ fn levels() -> Vec<Worked> {
     };
     let round = |levels| format!("v0:={}", around("(", "1", ")", levels));
     let square = |levels| format!("while {} do skip end", around("[", "true", "]", levels));
+    let tested = |levels| format!("if {} then skip else skip end", around("[", "true", "]", levels));
     let chosen = |levels| format!("v0:={}", around("choose(true,", "1", ",2)", levels));
     let whiles = |levels| around("while true do ", "skip", " end", levels);
     vec![
@@ -149,6 +151,8 @@ fn levels() -> Vec<Worked> {
         stops_at("257 round brackets", &round(257), 4 + 256),
         reads("a while's test in 255 brackets", &square(255), &while_do(truth(true), skip())),
         stops_at("a while's test in 256 brackets", &square(256), 6 + 255),
+        reads("an if's test in 255 brackets", &tested(255), &if_else(truth(true), skip(), skip())),
+        stops_at("an if's test in 256 brackets", &tested(256), 3 + 255),
         tells("256 chooses", &chosen(256), 9, 0),
         stops_at("257 chooses", &chosen(257), 4 + 12 * 256),
         tells("256 whiles", &whiles(256), 9, 0),
