@@ -1,4 +1,4 @@
-/* The seven calls from C: the listing rule of document 01 and its documented answers, other worked runs, each verdict, and what a
+/* The eight calls from C: the listing rule of document 01 and its documented answers, other worked runs, each verdict, and what a
  * refusal and a success leave alone. Every answer and every buffer is compared whole. */
 #include <stdio.h>
 #include <string.h>
@@ -289,6 +289,84 @@ static void text(void)
     bytes_hold("write: refused, room as it was", code_text, 0);
 }
 
+static void reads(const char *typed, size_t room_words)
+{
+    stale(); rill_read_rule((const uint8_t *)typed, strlen(typed), room, room_words, answer);
+}
+
+static void stops(const char *typed, uint32_t place)
+{
+    reads(typed, 64);
+    tells(typed, RILL_REFUSED, 17, place, 0, 0);
+}
+
+/* v0 := 1+1+..., so many ones, then the end */
+static const char *ones(size_t count, const char *end)
+{
+    static char typed[8192];
+    size_t i, at = 6;
+    memcpy(typed, "v0 := ", at);
+    for (i = 0; i < count; i++) { typed[at++] = '1'; typed[at++] = '+'; }
+    strcpy(typed + at - 1, end);
+    return typed;
+}
+
+/* v0 := ((...1...)), so many levels */
+static const char *brackets(size_t levels)
+{
+    static char typed[1024];
+    memcpy(typed, "v0 := ", 6);
+    memset(typed + 6, '(', levels);
+    typed[6 + levels] = '1';
+    memset(typed + 7 + levels, ')', levels);
+    typed[7 + 2 * levels] = 0;
+    return typed;
+}
+
+static void typed_rules(void)
+{
+    const char *typed_listing = "while 0 < v0 do\n  v0 := v0 - 60;\n  v1 := v1 + 1\nend\n";
+    const uint32_t row[20] = { 32, 0, 0, 0, 32, 0, 0, 0, 32, 0, 0, 0, 34, 1, 2, 0, 34, 0, 3, 0 };
+    const uint32_t one[8] = { 1, 1, 0, 0, 33, 0, 0, 0 };
+
+    reads(typed_listing, 64);
+    tells("rule: listing", RILL_DONE, 0, 0, 0, 52);
+    room_holds("rule: its table", listing, 52);
+    rill_check(room, 52, answer); tells("rule: its table passes", RILL_DONE, 0, 0, 0, 0);
+    reads(typed_listing, 52);
+    tells("rule: exact room", RILL_DONE, 0, 0, 0, 52);
+    reads(typed_listing, 51);
+    tells("rule: room too small", RILL_REFUSED, 15, 0, 0, 0);
+    room_holds("rule: refused 15, room as it was", room, 0);
+    reads("skip;skip;skip", 64);
+    tells("rule: a row", RILL_DONE, 0, 0, 0, 20);
+    room_holds("rule: a row groups to the right", row, 20);
+    reads(brackets(256), 64);
+    tells("rule: 256 brackets", RILL_DONE, 0, 0, 0, 8);
+    room_holds("rule: which make no nodes", one, 8);
+
+    stops(brackets(257), 6 + 256);
+    room_holds("rule: refused 17, room as it was", room, 0);
+    stops("", 0);
+    stops("skipx", 4);
+    stops("skip\r\n", 4);
+    stops("v32 := 1", 2);
+    stops("v0 := 2147483648", 15);
+    stops("if true then skip end", 19);
+    stops("while not not true do skip end", 10);
+
+    reads(ones(255, ""), 64);
+    tells("rule: depth 256, room too small", RILL_REFUSED, 15, 0, 0, 0);
+    reads(ones(256, ""), 64);
+    tells("rule: depth 257, room too small", RILL_REFUSED, 9, 0, 0, 0);
+    room_holds("rule: refused 9, room as it was", room, 0);
+    reads(ones(513, ""), 64);
+    tells("rule: 1,026 nodes, too deep", RILL_REFUSED, 1, 0, 0, 0);
+    room_holds("rule: refused 1, room as it was", room, 0);
+    reads(ones(513, ";"), 64);
+    tells("rule: 1,026 nodes, too deep, not in the grammar", RILL_REFUSED, 17, 6 + 2 * 513, 0, 0);
+}
+
 int main(void)
 {
     checking();
@@ -299,6 +377,7 @@ int main(void)
     running_depots();
     header_example();
     text();
+    typed_rules();
     printf("%u passed, %u failed\n", passed, failed);
     return failed != 0;
 }

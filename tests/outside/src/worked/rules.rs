@@ -129,6 +129,7 @@ fn places() -> Vec<Worked> {
         stops("while v0 do skip end", 9),
         stops("while v0 < = 1 do skip end", 11),
         stops("while v0 =< 1 do skip end", 10),
+        stops("while v0 == 1 do skip end", 10),
         stops("while 1 < 2 < 3 do skip end", 12),
         stops("while true = true do skip end", 11),
         stops("while true do end", 14),
