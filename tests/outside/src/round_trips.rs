@@ -5,7 +5,7 @@ use crate::calls::Calls;
 use crate::case::Case;
 use crate::generate::{codes, programs, rules, shuffle, store, stores, texts};
 use crate::guarded::Guarded;
-use crate::oracle::answer::{DONE, FINISHED};
+use crate::oracle::answer::{DONE, FINISHED, REFUSED};
 use crate::oracle::depot::ROW;
 use crate::oracle::table::VARIABLES;
 use crate::random::Random;
@@ -96,6 +96,60 @@ pub fn depot_is_its_crews(calls: &Calls, random: &mut Random) -> Result<(), Stri
     }
     let case = Case::RunDepot { table, code, start, stores, fuel, room };
     Err(format!("a depot is not its crews run one by one: {case}"))
+}
+
+/// "Place the length of its longest beginning that also begins a text of the grammar": that beginning can be completed to such a
+/// text, and one byte more cannot, whatever follows.
+pub fn place_is_the_longest_beginning(calls: &Calls, random: &mut Random) -> Result<(), String> {
+    let size = random.from(1, 30);
+    let program = programs::statement(random, size);
+    let tokens = rules::typed(random, &program).tokens;
+    let mut text = rules::text(random, &tokens);
+    rules::damage_byte(random, &mut text);
+
+    let mut guarded = Guarded::new(calls, size);
+    let Some(place) = stop(&mut guarded, &text) else {
+        return Ok(());
+    };
+    let too_long = text.get(..place + 1).is_none_or(|beginning| {
+        let any_end = [beginning, &rules::text(random, &tokens)].concat();
+        stop(&mut guarded, beginning) == Some(place) && stop(&mut guarded, &any_end) == Some(place)
+    });
+    if place <= text.len() && too_long && completed(&mut guarded, &text[..place]) && guarded.trespasses().is_empty() {
+        return Ok(());
+    }
+    Err(format!("{place} is not the longest beginning: {}", Case::ReadRule { text, room: vec![] }))
+}
+
+/// The place of 17, where that is told.
+fn stop(guarded: &mut Guarded, text: &[u8]) -> Option<usize> {
+    let (answer, _) = guarded.read_rule(text, &[]);
+    (answer[..2] == [REFUSED, 17]).then_some(answer[2] as usize)
+}
+
+/// How a text may go on: what closes something, then what must stand somewhere, then a letter of a word.
+#[rustfmt::skip]
+const ENDINGS: [&str; 33] = [
+    ")", "]", ",1,1)", ",1)", "<1", " end", " else skip end", " do skip end", " then skip else skip end",
+    " skip", " 1", " true", ":=1", "(true,1,1)", "0", "=",
+    "a", "c", "d", "e", "f", "h", "i", "k", "l", "n", "o", "p", "r", "s", "t", "u", "w",
+];
+
+/// Whether the text is one of the grammar after some of these, each put where it still begins one.
+fn completed(guarded: &mut Guarded, beginning: &[u8]) -> bool {
+    let mut text = beginning.to_vec();
+    for _ in 0..500 {
+        if stop(guarded, &text).is_none() {
+            return true;
+        }
+        let mut longer = ENDINGS.iter().map(|ending| [&text[..], ending.as_bytes()].concat());
+        let begins_one = |longer: &Vec<u8>| stop(guarded, longer).is_none_or(|place| place == longer.len());
+        match longer.find(begins_one) {
+            Some(longer) => text = longer,
+            None => return false,
+        }
+    }
+    false
 }
 
 /// The code at label 1, by the tested calls.

@@ -64,6 +64,7 @@ pub const ROUND: &[Family] = &[
     rules::deep_rules,
     rules::rules_bad_in_several_ways,
     rules::any_bytes,
+    rules::growing_rules,
 ];
 
 /// No run in a trial goes on longer than this; longer ones are out of fuel.

@@ -4,7 +4,8 @@ use super::small_program;
 use crate::case::Case;
 use crate::generate::rules::{damage_byte, damage_token, text, to_the_edge, typed, Typed};
 use crate::generate::*;
-use crate::oracle::rule::nodes_of;
+use crate::oracle::answer::Refusal;
+use crate::oracle::rule::{self, nodes_of};
 use crate::oracle::table::Class;
 use crate::random::Random;
 use crate::trees::Tree;
@@ -262,9 +263,11 @@ pub fn rules_bad_in_several_ways(random: &mut Random) -> Vec<Case> {
     vec![Case::ReadRule { text, room: room(random, length) }]
 }
 
+/// The bytes of the grammar's texts, letters as often as words have them.
+const USUAL: &[u8] = b"skipvifthenlsdwhilechosetrufandot0123456789;:=<+-*/%()[], \n";
+
 /// Bytes of any kind, bytes that occur in rules, blanks, nothing.
 pub fn any_bytes(random: &mut Random) -> Vec<Case> {
-    const USUAL: &[u8] = b"skipvifthenlsdwochoraund0123456789;:=<+-*/%()[], \n";
     let length = random.below(30);
     let text = match random.below(4) {
         0 => (0..length).map(|_| random.word() as u8).collect(),
@@ -273,6 +276,32 @@ pub fn any_bytes(random: &mut Random) -> Vec<Case> {
         _ => (0..length).map(|_| random.pick(USUAL)).collect(),
     };
     vec![reading(random, text)]
+}
+
+/// A text that grows byte by byte, each one with which some text of the grammar goes on; and each of its beginnings with
+/// another byte behind it, which may be one too.
+pub fn growing_rules(random: &mut Random) -> Vec<Case> {
+    let mut text: Vec<u8> = vec![];
+    let mut cases = vec![];
+    for _ in 0..random.from(1, 400) {
+        let byte = random.pick(USUAL);
+        text.push(byte);
+        if !begins_a_rule(&text) {
+            text.pop();
+        } else if random.once_in(4) {
+            let other = [&text[..], &[random.pick(USUAL)]].concat();
+            cases.push(reading(random, other));
+        }
+    }
+    cases.push(reading(random, text));
+    cases
+}
+
+fn begins_a_rule(text: &[u8]) -> bool {
+    match rule::read(text, &mut [0; 4096]) {
+        Err(Refusal { number: 17, place }) => place == text.len(),
+        _ => true,
+    }
 }
 
 /// Megabytes of blanks, of one word, of open brackets, of statements. Tried once.
