@@ -13,7 +13,7 @@ mod mutants {
 }
 
 /// Finds every mutant, and covers all that ought to occur, with any of the seeds 1 to 8.
-const COUNT: usize = 18_000;
+const COUNT: usize = 24_000;
 
 /// Until the first family with a failure.
 fn is_found_out(calls: &Calls) -> bool {

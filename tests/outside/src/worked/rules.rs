@@ -92,6 +92,7 @@ fn places_in_words() -> Vec<Worked> {
         stops("v0 := -1", 6),
         stops("v0 := choos(true, 1, 2)", 11),
         stops("iftrue then skip else skip end", 2),
+        stops("if1 < 2 then skip else skip end", 2),
         stops("if v0=v1and true then skip else skip end", 8),
         stops("if notv0 = 1 then skip else skip end", 6),
         stops("if true end", 8),
