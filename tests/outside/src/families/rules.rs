@@ -94,106 +94,97 @@ pub fn numbers_at_the_edge(random: &mut Random) -> Vec<Case> {
 /// About 256 levels, of one kind or of all; some with a fault, which may be in the middle.
 pub fn nested_rules(random: &mut Random) -> Vec<Case> {
     let levels = random.from(254, 258);
+    let outermost = random.pick(&[0, 0, 1, 2, 10, 100, levels]);
     let kinds = random.pick(&[
         &[Level::Round][..],
         &[Level::Square],
         &[Level::Choose],
-        &[Level::If],
-        &[Level::While],
-        &[Level::Round, Level::Square, Level::Choose, Level::If, Level::While],
+        &[Level::Round, Level::Square, Level::Choose],
         &[Level::Round, Level::Round, Level::Round, Level::Round, Level::Square, Level::Square, Level::Choose],
     ]);
-    let whole = nested(random, kinds, levels);
+    let whole = nested(random, kinds, levels - outermost, outermost);
     let mut faulty = whole.clone();
     damage_byte(random, &mut faulty);
     vec![reading(random, whole), reading(random, faulty)]
 }
 
+/// A level of an expression.
 #[derive(Clone, Copy)]
 enum Level {
     Round,
     Square,
     Choose,
-    If,
-    While,
 }
 
-/// So many levels of these kinds about something small, from the inside out. A square bracket needs one level more, which makes a
-/// statement of it.
-fn nested(random: &mut Random, kinds: &[Level], levels: usize) -> Vec<u8> {
-    let (mut text, mut class) = match kinds[0] {
-        Level::Square => ("true".to_string(), Class::Boolean),
-        Level::If | Level::While if kinds.len() == 1 => ("skip".to_string(), Class::Statement),
+/// So many levels of these kinds about something small, and so many ifs and whiles about them. Where there are none of these, a
+/// boolean gets one level more, which makes it an arithmetic.
+fn nested(random: &mut Random, kinds: &[Level], levels: usize, statements: usize) -> Vec<u8> {
+    let mut part = match levels {
+        0 => ("skip".to_string(), Class::Statement),
         _ => ("v1".to_string(), Class::Arithmetic),
     };
-    let mut left = levels;
-    while left > 0 {
+    for _ in 0..levels {
         let kind = random.pick(kinds);
-        match wrapped(random, kind, &text, class) {
-            Some(wrapped) if left > 1 || class_of(kind) != Class::Boolean => {
-                (text, class) = (wrapped, class_of(kind));
-                left -= 1;
-            }
-            // What cannot be wrapped so, or must not stay boolean at the end, gets another level.
-            _ => {
-                (text, class) = match class {
-                    Class::Boolean => (format!("choose({text}, v0, 3)"), Class::Arithmetic),
-                    Class::Arithmetic => (format!("[v0<{text}]"), Class::Boolean),
-                    Class::Statement => (format!("while false do {text} end"), Class::Statement),
-                };
-                left -= 1;
-            }
-        }
-        if left == 0 && class == Class::Boolean {
-            left = 1;
-        }
+        part = wrapped(random, kind, part);
     }
-    match class {
-        Class::Arithmetic => format!("v2:={text}").into(),
-        _ => text.into(),
+    for _ in 0..statements {
+        part = (in_statement(random, part), Class::Statement);
+    }
+    match part {
+        (text, Class::Arithmetic) => format!("v2:={text}").into(),
+        (text, Class::Boolean) => format!("v2 := choose({text}, 1, 2)").into(),
+        (text, Class::Statement) => text.into(),
     }
 }
 
-/// The class of what a level makes.
-fn class_of(level: Level) -> Class {
-    match level {
-        Level::Round | Level::Choose => Class::Arithmetic,
-        Level::Square => Class::Boolean,
-        Level::If | Level::While => Class::Statement,
+/// One level more about an expression. Round brackets cannot hold a boolean: a choose can.
+fn wrapped(random: &mut Random, level: Level, (text, class): (String, Class)) -> (String, Class) {
+    match (level, class) {
+        (Level::Square, _) => {
+            let test = if class == Class::Boolean { text } else { format!("v0<{text}") };
+            let inside = match random.below(12) {
+                0 => format!("not {test}"),
+                1 => format!(" true and {test} "),
+                2 => format!("{test} and false"),
+                _ => test,
+            };
+            (format!("[{inside}]"), Class::Boolean)
+        }
+        (_, Class::Boolean) => (format!("choose({text},1,2)"), Class::Arithmetic),
+        (Level::Round, _) => {
+            let inside = match random.below(12) {
+                0 => format!(" {text}\n"),
+                1 => format!("{text}*2"),
+                2 => format!("1-{text}"),
+                _ => text,
+            };
+            (format!("({inside})"), Class::Arithmetic)
+        }
+        (Level::Choose, _) => {
+            let chosen = match random.below(3) {
+                0 => format!("choose(true,{text},0)"),
+                1 => format!("choose (false, 1, {text})"),
+                _ => format!("choose({text} = 0, 1, v3)"),
+            };
+            (chosen, Class::Arithmetic)
+        }
     }
 }
 
-/// One level more about a text of this class, where such a level can hold it.
-fn wrapped(random: &mut Random, level: Level, text: &str, class: Class) -> Option<String> {
-    Some(match (level, class) {
-        (Level::Round, Class::Arithmetic) => match random.below(12) {
-            0 => format!("( {text}\n)"),
-            1 => format!("({text}*2)"),
-            2 => format!("(1-{text})"),
-            _ => format!("({text})"),
-        },
-        (Level::Square, Class::Boolean) => match random.below(12) {
-            0 => format!("[not {text}]"),
-            1 => format!("[ true and {text} ]"),
-            _ => format!("[{text}]"),
-        },
-        (Level::Choose, Class::Arithmetic) => match random.below(3) {
-            0 => format!("choose(true,{text},0)"),
-            1 => format!("choose (false, 1, {text})"),
-            _ => format!("choose({text} = 0, 1, v3)"),
-        },
-        (Level::Choose, Class::Boolean) => format!("choose({text},1,2)"),
-        (Level::If, Class::Boolean) => format!("if {text} then skip else skip end"),
-        (Level::If, Class::Arithmetic) => format!("if {text}<=1 then skip else v0:=1 end"),
-        (Level::If, Class::Statement) => match random.below(2) {
+/// An if or a while about a part, which may be its test.
+fn in_statement(random: &mut Random, (text, class): (String, Class)) -> String {
+    match (class, random.once_in(2)) {
+        (Class::Boolean, true) => format!("if {text} then skip else skip end"),
+        (Class::Boolean, false) => format!("while {text} do skip end"),
+        (Class::Arithmetic, true) => format!("if {text}<=1 then skip else v0:=1 end"),
+        (Class::Arithmetic, false) => format!("while true do v4 := {text} end"),
+        (Class::Statement, true) => match random.below(3) {
             0 => format!("if true then {text} else skip end"),
-            _ => format!("if v0=v1 then skip else {text} end"),
+            1 => format!("if true then skip;skip else {text} end"),
+            _ => format!("if v0=v1 then {text};skip else skip end"),
         },
-        (Level::While, Class::Boolean) => format!("while {text} do skip end"),
-        (Level::While, Class::Arithmetic) => format!("while 1 < {text} do skip end"),
-        (Level::While, Class::Statement) => format!("while true do {text} end"),
-        (Level::Round | Level::Square, _) | (Level::Choose, Class::Statement) => return None,
-    })
+        (Class::Statement, false) => format!("while true do {text} end"),
+    }
 }
 
 /// About 1,024 nodes, and not too deep.
@@ -219,15 +210,13 @@ fn typed_row(random: &mut Random, statements: &[Tree]) -> Vec<String> {
 /// nodes as well.
 fn deep_text(random: &mut Random) -> Vec<u8> {
     let many = random.pick(&[253, 254, 255, 255, 256, 256, 257, 258, 520, 1100]);
-    match random.below(8) {
+    match random.below(9) {
         0 => vec!["skip"; many].join(";").into(),
         1 => format!("v0:={}", vec!["v1"; many].join(random.pick(&["+", "-", " - "]))).into(),
         2 => format!("v0:={}", vec!["1"; many].join(random.pick(&["*", "/", "%"]))).into(),
         3 => format!("while {} do skip end", vec!["true"; many].join(" and ")).into(),
-        4 => {
-            let kind = random.pick(&[Level::Choose, Level::If, Level::While]);
-            nested(random, &[kind], many.min(256))
-        }
+        4 => nested(random, &[Level::Choose], many.min(256), 0),
+        5 => nested(random, &[], 0, many.min(256)),
         _ => {
             let depth = random.from(253, 259);
             let program = programs::deep(random, Class::Statement, depth);
