@@ -87,7 +87,8 @@ enum { RILL_CREW_FINISHED = 0, RILL_CREW_OUT_OF_FUEL = 1 };
  *       in writing: words not a multiple of 4, or over 4,096                     the lesser of 1,024 and the whole frames
  *   15  room too small for the words or bytes                                    0
  *   16  depot: room under three words a crew                                     0
- *   17  typed rule: not in the grammar     the length of the longest beginning that also begins a rule, in bytes
+ *   17  typed rule: not in the grammar                                           the bytes of its longest beginning that
+ *                                                                                also begins a rule of the grammar
  */
 
 /* Checks a table. Done, or refused 1 to 9. Writes nothing but the answer. */
@@ -134,8 +135,9 @@ void rill_write_text(const uint32_t *words, size_t words_count, uint8_t *room, s
  *
  *   P, a rule:   one or more statements, separated by ";", which group to the right
  *   a statement: skip      v7 := a      if b then P else P end      while b do P end
- *   a:           0 to 2147483647 without leading zeros, v0 to v31, (a), choose(b, a, a); then * / %, then + -, to the left
- *   b:           true, false, a = a, a <= a, a < a, [b]; not before one of these; joined by and, to the left
+ *   a:           0 to 2147483647 without leading zeros, v0 to v31, (a), choose(b, a, a); joined by * / % and, less closely,
+ *                by + -, all to the left
+ *   b:           true, false, a = a, a <= a, a < a, [b], each perhaps with one not before it; joined by and, to the left
  *
  * Blanks (byte 32) and newlines (byte 10) may stand around all of these, and must part two words (runs of letters or digits);
  * no other byte is one. Brackets, chooses, ifs and whiles nest at most 256 deep: a choose is one level with its brackets, and

@@ -267,8 +267,8 @@ pub fn any_bytes(random: &mut Random) -> Vec<Case> {
     vec![reading(random, text)]
 }
 
-/// A text that grows byte by byte, each one with which some text of the grammar goes on; and each of its beginnings with
-/// another byte behind it, which may be one too.
+/// A text that grows byte by byte, each one with which some text of the grammar goes on; and some of its beginnings with any
+/// byte behind.
 pub fn growing_rules(random: &mut Random) -> Vec<Case> {
     let mut text: Vec<u8> = vec![];
     let mut cases = vec![];
@@ -296,15 +296,15 @@ fn begins_a_rule(text: &[u8]) -> bool {
 /// Megabytes of blanks, of one word, of open brackets, of statements. Tried once.
 pub fn long_rules() -> Vec<Case> {
     const LONG: usize = 3_000_000;
-    let blanks = |byte: u8| vec![byte; LONG];
+    let many = |byte: u8| vec![byte; LONG];
     let texts = [
-        [b"v0 :=".to_vec(), blanks(b' '), b"1 + 2".to_vec()].concat(),
-        [blanks(b'\n'), b"skip;".to_vec(), blanks(b' '), b"skip".to_vec(), blanks(b'\n')].concat(),
-        [b"skip;".to_vec(), blanks(b' ')].concat(),
-        [b"skip".to_vec(), blanks(b' '), b"\t".to_vec()].concat(),
-        [b"v0 := 1".to_vec(), blanks(b'0')].concat(),
-        [b"skip".to_vec(), blanks(b'p')].concat(),
-        [b"v0 := ".to_vec(), blanks(b'(')].concat(),
+        [b"v0 :=".to_vec(), many(b' '), b"1 + 2".to_vec()].concat(),
+        [many(b'\n'), b"skip;".to_vec(), many(b' '), b"skip".to_vec(), many(b'\n')].concat(),
+        [b"skip;".to_vec(), many(b' ')].concat(),
+        [b"skip".to_vec(), many(b' '), b"\t".to_vec()].concat(),
+        [b"v0 := 1".to_vec(), many(b'0')].concat(),
+        [b"skip".to_vec(), many(b'p')].concat(),
+        [b"v0 := ".to_vec(), many(b'(')].concat(),
         b"skip;".repeat(LONG / 5),
         [b"skip;".repeat(LONG / 5), b"skip".to_vec()].concat(),
         [b"v0 := 1".to_vec(), b"+1".repeat(LONG / 2)].concat(),
