@@ -1,4 +1,4 @@
-/* Rillgiggle: break rules checked, run, compiled to jump code, and that code run. Link target/staticlib/libboundary.a
+/* Rillgiggle: break rules read, checked, run, compiled to jump code, and that code run. Link target/staticlib/libboundary.a
  * (rt staticlib boundary; x86-64 Linux). C99 or later, C++ too.
  *
  * Every call ends, checks its input itself, and writes all eight words of `answer`. A refusal alters nothing else;
@@ -10,7 +10,7 @@
  *
  * A table is four words a node: kind, p, q, r. Code is four words an instruction: label, operation, x, y.
  *
- * Example: the rule "v1 := 7" as a table, which rill_read_rule makes of that text, compiled at label 1, and its code run.
+ * Example: the rule "v1 := 7" as a table, compiled at label 1, and its code run.
  *
  *   uint32_t table[8] = { 1, 7, 0, 0,                                            node 0: the number 7
  *                         33, 1, 0, 0 };                                         node 1: v1 := node 0
@@ -39,13 +39,14 @@ enum {
     RILL_NUMBER = 1,  /* of a refusal, its number */
     RILL_PLACE = 2,   /* of a refusal, its place */
     RILL_LABEL = 3,   /* of a code run, the label it stands at; of compilation, the end label */
-    RILL_AMOUNT = 4,  /* of a run, the steps; of compilation, the instructions; of text, the words read or bytes written */
+    RILL_AMOUNT = 4,  /* of a run, the steps; of compilation, the instructions; of text, the words read or bytes written; of
+                       * a typed rule, the words of its table */
     RILL_WORDS = 8    /* how many there are; words 5 to 7 are 0 */
 };
 
 /* The verdicts. */
 enum {
-    RILL_DONE = 0,        /* check, compilation, depot, text: accepted, made, all run, read or written */
+    RILL_DONE = 0,        /* check, compilation, depot, text, typed rule: accepted, made, all run, read or written */
     RILL_FINISHED = 1,    /* a run came to its end within the fuel */
     RILL_OUT_OF_FUEL = 2, /* a run spent all its fuel before its end */
     RILL_REFUSED = 3      /* the input is against the rules: number and place say where */
@@ -64,9 +65,10 @@ enum {
 enum { RILL_CREW_FINISHED = 0, RILL_CREW_OUT_OF_FUEL = 1 };
 
 /* Refusals, with their places. Every call that takes a table may give 1 to 9; which others, is said at each call.
- * Numbers 2 to 6 go node by node from 0, the lowest number at a node first; otherwise the lowest number wins, but for
- * 17, which comes before all others.
- *    1  table words not a multiple of 4, none, or over 4,096                     0
+ * Numbers 2 to 6 go node by node from 0, the lowest number at a node first; otherwise the lowest number wins. For a typed
+ * rule the order is 17, 1, 9, 15.
+ *    1  table words not a multiple of 4, none, or over 4,096; a typed rule of
+ *       over 1,024 nodes                                                         0
  *    2  unknown kind                                                             node
  *    3  an unused word is not 0                                                  node
  *    4  variable over 31                                                         node
@@ -85,8 +87,8 @@ enum { RILL_CREW_FINISHED = 0, RILL_CREW_OUT_OF_FUEL = 1 };
  *       in writing: words not a multiple of 4, or over 4,096                     the lesser of 1,024 and the whole frames
  *   15  room too small for the words or bytes                                    0
  *   16  depot: room under three words a crew                                     0
- *   17  typed rule: not in the grammar                                           the length of its longest beginning that
- *                                                                                begins a rule (4,294,967,295 at most)
+ *   17  typed rule: not in the grammar                                           the bytes of its longest beginning that
+ *                                                                                also begins a rule of the grammar
  */
 
 /* Checks a table. Done, or refused 1 to 9. Writes nothing but the answer. */
@@ -128,19 +130,20 @@ void rill_read_text(const uint8_t *text, size_t text_bytes, uint32_t *room, size
  * Done: AMOUNT is the bytes written. Refused 14, 15. */
 void rill_write_text(const uint32_t *words, size_t words_count, uint8_t *room, size_t room_bytes, uint32_t answer[8]);
 
-/* Reads a rule as a planner types it into the front of room, as the table that the other calls take: four words a node, and
- * 4,096 words always suffice.
+/* Reads a rule as planners type it, and writes its table into the front of room: four words a node, children first, left to
+ * right. A table has at most 4,096 words, so that many always suffice.
  *
- *   rule       one or more statements, with ; between them
- *   statement  skip, or v7 := sum, or if test then rule else rule end, or while test do rule end
- *   sum        + and - below * / and %, all grouping to the left, over whole numbers 0 to 2147483647 without leading zeros,
- *              v0 to v31, (sum) and choose(test, sum, sum)
- *   test       parts joined by and, to the left; a part is true, false, sum = sum, sum <= sum, sum < sum or [test], or one
- *              of these with not before it
+ *   P, a rule:   one or more statements, separated by ";", which group to the right
+ *   a statement: skip      v7 := a      if b then P else P end      while b do P end
+ *   a:           0 to 2147483647 without leading zeros, v0 to v31, (a), choose(b, a, a); joined by * / % and, less closely,
+ *                by + -, all to the left
+ *   b:           true, false, a = a, a <= a, a < a, [b], each perhaps with one not before it; joined by and, to the left
  *
- * Blanks (byte 32) and newlines (byte 10) may stand around words and signs, and must part two words. Brackets, chooses, ifs
- * and whiles nest at most 256 deep.
- * Done: AMOUNT is the words written. Refused 17, then 1 (over 1,024 nodes), 9, 15. */
+ * Blanks (byte 32) and newlines (byte 10) may stand around all of these, and must part two words (runs of letters or digits);
+ * no other byte is one. Brackets, chooses, ifs and whiles nest at most 256 deep: a choose is one level with its brackets, and
+ * the test of an if or a while is inside it.
+ * Done: AMOUNT is the words of the table, and rill_check accepts it. Refused, in this order: 17, 1, 9, 15. A place over
+ * 4294967295 is told as 4294967295. */
 void rill_read_rule(const uint8_t *text, size_t text_bytes, uint32_t *room, size_t room_words, uint32_t answer[8]);
 
 #ifdef __cplusplus

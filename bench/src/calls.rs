@@ -1,8 +1,8 @@
-//! The cost of a call that does not run anything: check, compilation, text.
+//! The cost of a call that does not run anything: check, compilation, text, typed rules.
 
 use crate::measure::{columns, side_by_side, timed};
 use crate::ours::Ours;
-use crate::workloads::{deepest_table_of_1000_nodes, table_of_1000_nodes};
+use crate::workloads::{deepest_table_of_1000_nodes, deepest_typed_rule, table_of_1000_nodes, typed_rule};
 use outside::oracle;
 use outside::oracle::answer::{Answer, DONE};
 use std::hint::black_box;
@@ -50,6 +50,18 @@ pub fn calls(ours: &Ours) {
         )
     });
     assert!(words == plain_words && bytes == plain_bytes);
+    for (name, rule) in [
+        ("reading a typed rule of 1,000 nodes", typed_rule()),
+        ("reading a typed rule, 256 levels of brackets", deepest_typed_rule()),
+    ] {
+        let pair = side_by_side(
+            CALLS,
+            || repeat(|| ours.read_rule(&rule, &mut words)),
+            || repeat(|| oracle::read_rule(&rule, &mut plain_words)),
+        );
+        println!("| {name} | {} |", columns(pair));
+        assert!(words == plain_words);
+    }
 }
 
 /// The time of all the calls together. Each answer is looked at, so that no call can be left out.

@@ -3,7 +3,8 @@
 
 use crate::ours::Ours;
 use crate::runs::first_store;
-use crate::workloads::{deepest_table_of_1000_nodes, depots, programs, table_of_1000_nodes, CREWS};
+use crate::workloads::{deepest_table_of_1000_nodes, deepest_typed_rule, depots, programs};
+use crate::workloads::{table_of_1000_nodes, typed_rule, CREWS};
 use outside::oracle;
 use outside::oracle::answer::{Answer, REFUSED};
 use std::hint::black_box;
@@ -13,7 +14,7 @@ pub fn once(ours: &Ours, side: &str, row: &str) {
     let ours = (side == "ours").then_some(ours);
     match row.split_once('-') {
         Some(("depot", row)) => println!("{}", depot(ours, row)),
-        None | Some(("check", _)) => {
+        None | Some(("check" | "read", _)) => {
             call(ours, row);
             println!("1");
         }
@@ -74,6 +75,7 @@ fn call(ours: Option<&Ours>, row: &str) -> Answer {
     let (table, deepest) = (table_of_1000_nodes(), deepest_table_of_1000_nodes());
     let mut text = vec![1; 33 * 1000];
     oracle::write_text(&table, &mut text);
+    let (rule, deepest_rule) = (typed_rule(), deepest_typed_rule());
     let (mut words, mut bytes) = (vec![1; 4096], vec![1; 33 * 1024]);
     match (ours, row) {
         (Some(ours), "check") => counted(|| ours.check(&table)),
@@ -81,11 +83,18 @@ fn call(ours: Option<&Ours>, row: &str) -> Answer {
         (Some(ours), "compile") => counted(|| ours.compile(&table, 1, &mut words)),
         (Some(ours), "read") => counted(|| ours.read_text(&text, &mut words)),
         (Some(ours), "write") => counted(|| ours.write_text(&table, &mut bytes)),
+        (Some(ours), "read-rule") => counted(|| ours.read_rule(&rule, &mut words)),
+        (Some(ours), "read-rule-deep") => counted(|| ours.read_rule(&deepest_rule, &mut words)),
         (None, "check") => counted(|| oracle::check(&table)),
         (None, "check-deep") => counted(|| oracle::check(&deepest)),
         (None, "compile") => counted(|| oracle::compile(&table, 1, &mut words)),
         (None, "read") => counted(|| oracle::read_text(&text, &mut words)),
         (None, "write") => counted(|| oracle::write_text(&table, &mut bytes)),
-        _ => panic!("the row is a run, as a-code, a depot, as depot-a, or check, check-deep, compile, read or write"),
+        (None, "read-rule") => counted(|| oracle::read_rule(&rule, &mut words)),
+        (None, "read-rule-deep") => counted(|| oracle::read_rule(&deepest_rule, &mut words)),
+        _ => panic!(
+            "the row is a run, as a-code, a depot, as depot-a, or check, check-deep, compile, read, write, read-rule or \
+             read-rule-deep"
+        ),
     }
 }

@@ -65,6 +65,12 @@ impl Ours {
             (self.calls.write_text)(words.as_ptr(), words.len(), room.as_mut_ptr(), room.len(), answer)
         })
     }
+
+    pub fn read_rule(&self, text: &[u8], room: &mut [u32]) -> Answer {
+        answered(|answer| unsafe {
+            (self.calls.read_rule)(text.as_ptr(), text.len(), room.as_mut_ptr(), room.len(), answer)
+        })
+    }
 }
 
 fn answered(call: impl FnOnce(*mut u32)) -> Answer {

@@ -1,6 +1,8 @@
-//! What is run: four programs, hand-written code, depots of them, and the inputs for checking, compiling and text.
+//! What is run: four programs, hand-written code, depots of them, and the inputs for checking, compiling, text and typed rules.
 
 use outside::oracle;
+use outside::oracle::answer::DONE;
+use outside::oracle::rule::MOST_NESTED;
 use outside::oracle::table::{depth, MOST_DEPTH};
 use outside::trees::*;
 use outside::worked::loop_program;
@@ -215,4 +217,53 @@ pub fn largest_assign() -> (Vec<u32>, Vec<u32>) {
 pub fn code_of_leaps(instructions: u32) -> Vec<u32> {
     let leap = instructions * 3 / 5 + 1;
     (0..instructions).flat_map(|label| [label, 2, 0, (label + leap) % instructions]).collect()
+}
+
+/// A rule as planners type it, of exactly 1,000 nodes: 22 times three statements, 45 nodes with their sequences, and an
+/// assign of ten at the end.
+pub fn typed_rule() -> Vec<u8> {
+    let piece = |i: u32| {
+        let [a, b, c, d] = [i % 8, 8 + i % 8, 16 + i % 8, 24 + i % 8];
+        format!(
+            "v{a} := v{b} / 60 * 60 + {};\n\
+             if 0 < v{a} and not v{b} = 30 then\n  v{c} := (v{a} + v{b}) * 2 - 15\n\
+             else\n  v{c} := choose(v{a} <= v{b}, v{a} % 60, 45)\nend;\n\
+             while {} < v{d} do\n  v{d} := v{d} - 60\nend;\n",
+            7 * i,
+            120 * i
+        )
+    };
+    let mut text: String = (0..22).map(piece).collect();
+    text.push_str("v31 := (v0 + 1) * 60 + v1 - 5\n");
+    assert_eq!(nodes_of(&text), 1000);
+    text.into()
+}
+
+/// A typed rule of as many levels as there may be: seven statements, in each a while, an if, 13 chooses and 241 brackets of both
+/// kinds.
+pub fn deepest_typed_rule() -> Vec<u8> {
+    let deepest = deep_arithmetic(MOST_NESTED - 2);
+    let piece = |i: u32| format!("while v{i} < 3 do if true then v{i} := {deepest} else skip end end");
+    let text = (0..7).map(piece).collect::<Vec<String>>().join(";\n");
+    assert!(nodes_of(&text) <= 1000);
+    text.into()
+}
+
+/// Mostly brackets, which make no nodes: a choose, with square brackets inside, and a sum in every twenty levels.
+fn deep_arithmetic(levels: u32) -> String {
+    match levels {
+        0 => "v1".into(),
+        1 => "(v1)".into(),
+        _ => match levels % 20 {
+            9 => format!("(v2 + {})", deep_arithmetic(levels - 1)),
+            14 => format!("choose([v0 < {}] and true, v1, 2)", deep_arithmetic(levels - 2)),
+            _ => format!("({})", deep_arithmetic(levels - 1)),
+        },
+    }
+}
+
+fn nodes_of(text: &str) -> usize {
+    let answer = oracle::read_rule(text.as_bytes(), &mut [0; 4096]);
+    assert_eq!(answer[0], DONE, "{answer:?}");
+    answer[4] as usize / 4
 }

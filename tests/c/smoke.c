@@ -289,58 +289,82 @@ static void text(void)
     bytes_hold("write: refused, room as it was", code_text, 0);
 }
 
-static void reads_rule(const char *what, const char *typed, size_t words, uint32_t verdict, uint32_t number, uint32_t place,
-                       uint32_t amount)
+static void reads(const char *typed, size_t room_words)
 {
-    stale();
-    rill_read_rule((const uint8_t *)typed, strlen(typed), room, words, answer);
-    tells(what, verdict, number, place, 0, amount);
+    stale(); rill_read_rule((const uint8_t *)typed, strlen(typed), room, room_words, answer);
 }
 
-/* p inside so many brackets */
-static const char *bracketed(const char *before, size_t brackets, const char *p, const char *after)
+static void stops(const char *typed, uint32_t place)
 {
-    static char all[4096];
-    size_t i;
-    strcpy(all, before);
-    for (i = 0; i < brackets; i++) strcat(all, "(");
-    strcat(all, p);
-    for (i = 0; i < brackets; i++) strcat(all, ")");
-    return strcat(all, after);
+    reads(typed, 64);
+    tells(typed, RILL_REFUSED, 17, place, 0, 0);
 }
 
-static void rules(void)
+/* v0 := 1+1+..., so many ones, then the end */
+static const char *ones(size_t count, const char *end)
 {
-    static char many[8192];
-    size_t i;
+    static char typed[8192];
+    size_t i, at = 6;
+    memcpy(typed, "v0 := ", at);
+    for (i = 0; i < count; i++) { typed[at++] = '1'; typed[at++] = '+'; }
+    strcpy(typed + at - 1, end);
+    return typed;
+}
 
-    reads_rule("rule: listing", "while 0 < v0 do v0 := v0 - 60; v1 := v1 + 1 end", 64, RILL_DONE, 0, 0, 52);
+/* v0 := ((...1...)), so many levels */
+static const char *brackets(size_t levels)
+{
+    static char typed[1024];
+    memcpy(typed, "v0 := ", 6);
+    memset(typed + 6, '(', levels);
+    typed[6 + levels] = '1';
+    memset(typed + 7 + levels, ')', levels);
+    typed[7 + 2 * levels] = 0;
+    return typed;
+}
+
+static void typed_rules(void)
+{
+    const char *typed_listing = "while 0 < v0 do\n  v0 := v0 - 60;\n  v1 := v1 + 1\nend\n";
+    const uint32_t row[20] = { 32, 0, 0, 0, 32, 0, 0, 0, 32, 0, 0, 0, 34, 1, 2, 0, 34, 0, 3, 0 };
+    const uint32_t one[8] = { 1, 1, 0, 0, 33, 0, 0, 0 };
+
+    reads(typed_listing, 64);
+    tells("rule: listing", RILL_DONE, 0, 0, 0, 52);
     room_holds("rule: its table", listing, 52);
-    reads_rule("rule: exact room, blanks and newlines", "\n while 0<v0 do\nv0:=v0-60;v1:=v1+1 end \n", 52, RILL_DONE, 0, 0, 52);
-    room_holds("rule: the same table", listing, 52);
-    reads_rule("rule: room too small", "while 0 < v0 do v0 := v0 - 60; v1 := v1 + 1 end", 51, RILL_REFUSED, 15, 0, 0);
-    room_holds("rule: room as it was", listing, 0);
-    reads_rule("rule: no text", "", 64, RILL_REFUSED, 17, 0, 0);
-    reads_rule("rule: a word too long", "skipx", 64, RILL_REFUSED, 17, 4, 0);
-    reads_rule("rule: variable 32", "v32 := 0", 64, RILL_REFUSED, 17, 2, 0);
-    reads_rule("rule: a number too great", "v0 := 2147483648", 64, RILL_REFUSED, 17, 15, 0);
-    reads_rule("rule: becomes in two", "v0 : = 1", 64, RILL_REFUSED, 17, 4, 0);
-    reads_rule("rule: else left out", "if true then skip end", 64, RILL_REFUSED, 17, 19, 0);
-    reads_rule("rule: stops too early", "v0 := 1;", 64, RILL_REFUSED, 17, 8, 0);
-    reads_rule("rule: carriage return", "skip;\r\nskip", 64, RILL_REFUSED, 17, 5, 0);
-    room_holds("rule: room as it was at 17", listing, 0);
-    reads_rule("rule: 256 brackets", bracketed("v0 := ", 256, "7", ""), 64, RILL_DONE, 0, 0, 8);
-    reads_rule("rule: 257 brackets", bracketed("v0 := ", 257, "7", ""), 64, RILL_REFUSED, 17, 262, 0);
-    /* 513 skips are 1,025 nodes; their row is over 256 deep too */
-    strcpy(many, "skip");
-    for (i = 1; i < 513; i++) strcat(many, ";skip");
-    reads_rule("rule: 1,025 nodes", many, 64, RILL_REFUSED, 1, 0, 0);
-    strcat(many, ";");
-    reads_rule("rule: 1,025 nodes, out of the grammar", many, 64, RILL_REFUSED, 17, 2565, 0);
-    many[4 + 5 * 256] = 0;
-    reads_rule("rule: depth 257", many, 64, RILL_REFUSED, 9, 0, 0);
-    many[4 + 5 * 255] = 0;
-    reads_rule("rule: depth 256, no room", many, 64, RILL_REFUSED, 15, 0, 0);
+    rill_check(room, 52, answer); tells("rule: its table passes", RILL_DONE, 0, 0, 0, 0);
+    reads(typed_listing, 52);
+    tells("rule: exact room", RILL_DONE, 0, 0, 0, 52);
+    reads(typed_listing, 51);
+    tells("rule: room too small", RILL_REFUSED, 15, 0, 0, 0);
+    room_holds("rule: refused 15, room as it was", room, 0);
+    reads("skip;skip;skip", 64);
+    tells("rule: a row", RILL_DONE, 0, 0, 0, 20);
+    room_holds("rule: a row groups to the right", row, 20);
+    reads(brackets(256), 64);
+    tells("rule: 256 brackets", RILL_DONE, 0, 0, 0, 8);
+    room_holds("rule: which make no nodes", one, 8);
+
+    stops(brackets(257), 6 + 256);
+    room_holds("rule: refused 17, room as it was", room, 0);
+    stops("", 0);
+    stops("skipx", 4);
+    stops("skip\r\n", 4);
+    stops("v32 := 1", 2);
+    stops("v0 := 2147483648", 15);
+    stops("if true then skip end", 19);
+    stops("while not not true do skip end", 10);
+
+    reads(ones(255, ""), 64);
+    tells("rule: depth 256, room too small", RILL_REFUSED, 15, 0, 0, 0);
+    reads(ones(256, ""), 64);
+    tells("rule: depth 257, room too small", RILL_REFUSED, 9, 0, 0, 0);
+    room_holds("rule: refused 9, room as it was", room, 0);
+    reads(ones(513, ""), 64);
+    tells("rule: 1,026 nodes, too deep", RILL_REFUSED, 1, 0, 0, 0);
+    room_holds("rule: refused 1, room as it was", room, 0);
+    reads(ones(513, ";"), 64);
+    tells("rule: 1,026 nodes, too deep, not in the grammar", RILL_REFUSED, 17, 6 + 2 * 513, 0, 0);
 }
 
 int main(void)
@@ -353,7 +377,7 @@ int main(void)
     running_depots();
     header_example();
     text();
-    rules();
+    typed_rules();
     printf("%u passed, %u failed\n", passed, failed);
     return failed != 0;
 }

@@ -1,6 +1,6 @@
 // The deepest stack of each call, in bytes: each runs on a painted stack of its own, on the deepest accepted tables and on hostile ones.
-// What an empty call needs is taken off. Prints one line a call and table; docs/LIMITS.md has the greatest. Fails where a check needs
-// more than CHECK_MOST: older terminals have little stack.
+// What an empty call needs is taken off. Prints one line a call and table, or typed rule; docs/LIMITS.md has the greatest. Fails where
+// a check needs more than CHECK_MOST, or reading a typed rule more than RULE_MOST: older terminals have little stack.
 #include "rillgiggle.h"
 
 #include <pthread.h>
@@ -9,12 +9,14 @@
 #include <stdlib.h>
 #include <string.h>
 
-enum { STACK = 1 << 20, PAINT = 0xA5, NODES = 1024, CHECK_MOST = 1100 };
+enum { STACK = 1 << 20, PAINT = 0xA5, NODES = 1024, CHECK_MOST = 1100, RULE_MOST = 32768 };
 
 static uint32_t table[4 * NODES + 4], code[4 * NODES], words[4 * NODES];
 static size_t table_words, code_words;
 static uint8_t text[33 * NODES];
 static size_t text_bytes;
+static char rule[64 * NODES];
+static size_t rule_bytes;
 static int32_t store[32], stores[2 * 32];
 static uint32_t answer[8];
 
@@ -90,6 +92,8 @@ static void write_text(void) {
 }
 static void read_text(void) { rill_read_text(text, text_bytes, words, sizeof words / sizeof *words, answer); }
 
+static void read_rule(void) { rill_read_rule((const uint8_t *)rule, rule_bytes, words, sizeof words / sizeof *words, answer); }
+
 static void *call(void *f) {
     ((void (*)(void))(uintptr_t)f)();
     return NULL;
@@ -128,6 +132,78 @@ static void measure(const char *name) {
     table_words = 0;
 }
 
+static void type(const char *part, int times) {
+    for (int i = 0; i < times; i++) {
+        memcpy(rule + rule_bytes, part, strlen(part));
+        rule_bytes += strlen(part);
+    }
+}
+
+// The text of `rule`, which is typed anew after it.
+static void measure_rule(const char *name) {
+    size_t base = depth_of(nothing);
+    size_t deep = depth_of(read_rule);
+    size_t bytes = deep > base ? deep - base : 0;
+    printf("%-16s %-40s %6zu bytes, verdict %u number %u\n", "rill_read_rule", name, bytes, answer[0], answer[1]);
+    too_deep |= bytes > RULE_MOST;
+    rule_bytes = 0;
+}
+
+// Levels of one kind, as many as there may be and one more; levels of all kinds; long rows and sums; texts out of the grammar.
+static void measure_rules(void) {
+    static const struct {
+        const char *name, *first, *open, *inner, *close, *last;
+        int outside; // levels that first opens
+    } kinds[] = {{"round brackets", "v0 := ", "(", "1", ")", "", 0},
+                 {"sums in round brackets", "v0 := ", "1+(", "1", ")", "", 0},
+                 {"products of sums in round brackets", "v0 := ", "1+2*(", "1", ")", "", 0},
+                 {"square brackets", "while ", "[", "true", "]", " do skip end", 1},
+                 {"nots and ands in square brackets", "while ", "true and not [", "true", "]", " do skip end", 1},
+                 {"chooses, by their tests", "v0 := ", "choose(1 = ", "1", ", 2, 3)", "", 0},
+                 {"chooses, by their last sides", "v0 := ", "choose(true, 2, ", "1", ")", "", 0},
+                 {"ifs, by their first branches", "", "if true then ", "skip", " else skip end", "", 0},
+                 {"ifs, by their last branches", "", "if true then skip else ", "skip", " end", "", 0},
+                 {"whiles", "", "while true do ", "skip", " end", "", 0},
+                 {"rows in whiles", "", "skip; while true do skip; ", "skip", "; skip end; skip", "", 0}};
+    char name[64];
+    for (size_t i = 0; i < sizeof kinds / sizeof *kinds; i++) {
+        for (int levels = 128; levels <= 257; levels += levels == 128 ? 128 : 1) {
+            type(kinds[i].first, 1);
+            type(kinds[i].open, levels - kinds[i].outside);
+            type(kinds[i].inner, 1);
+            type(kinds[i].close, levels - kinds[i].outside);
+            type(kinds[i].last, 1);
+            snprintf(name, sizeof name, "%s, %d levels", kinds[i].name, levels);
+            measure_rule(name);
+        }
+    }
+    type("while true do if true then ", 30);
+    type("while ", 1);
+    type("[", 60);
+    type("1 < ", 1);
+    type("choose(true, (", 60);
+    type("(", 15);
+    type("1", 1);
+    type(")", 15);
+    type("), 2)", 60);
+    type("]", 60);
+    type(" do skip end", 1);
+    type(" else skip end end", 30);
+    measure_rule("all kinds, 256 levels");
+    type("v1 := v2 + 3; ", 204);
+    type("v1 := v2 + 3", 1);
+    measure_rule("1,024 nodes in a row");
+    type("skip; ", 1024);
+    type("skip", 1);
+    measure_rule("2,049 nodes in a row");
+    type("v0 := 1", 1);
+    type(" + 1", 1024);
+    measure_rule("2,050 nodes in a sum");
+    type("(", 1024);
+    measure_rule("nothing of the grammar");
+    measure_rule("nothing typed");
+}
+
 int main(void) {
     static const struct {
         const char *name;
@@ -161,5 +237,6 @@ int main(void) {
     measure("1,024 numbers");
     full(0);
     measure("1,024 nodes of no kind");
+    measure_rules();
     return too_deep;
 }

@@ -737,4 +737,592 @@ pub const EDITS: &[Edit] = &[
         from: "!words.len().is_multiple_of(4) || words.len() > 4 * MOST_FRAMES",
         to: "frames > MOST_FRAMES",
     },
+    // Typed rules: how they group.
+    Edit {
+        says: "* and + are on one level",
+        file: "rule.rs",
+        from: "        let mut left = self.term()?;
+        loop {
+            let kind = match self.peek() {
+                Some(b'+') => SUM,
+                Some(b'-') => DIFFERENCE,
+                _ => return Ok(left),
+            };
+            self.past_sign();
+            let right = self.term()?;",
+        to: "        let mut left = self.factor()?;
+        loop {
+            let kind = match self.peek() {
+                Some(b'+') => SUM,
+                Some(b'-') => DIFFERENCE,
+                Some(b'*') => PRODUCT,
+                Some(b'/') => QUOTIENT,
+                Some(b'%') => REMAINDER,
+                _ => return Ok(left),
+            };
+            self.past_sign();
+            let right = self.factor()?;",
+    },
+    Edit {
+        says: "a difference groups to the right",
+        file: "rule.rs",
+        from: "            let right = self.term()?;",
+        to: "            let right = if kind == DIFFERENCE { self.arithmetic()? } else { self.term()? };",
+    },
+    Edit {
+        says: "a product groups to the right",
+        file: "rule.rs",
+        from: "            let right = self.factor()?;",
+        to: "            let right = self.term()?;",
+    },
+    Edit {
+        says: "a quotient is read as a remainder",
+        file: "rule.rs",
+        from: "Some(b'/') => QUOTIENT",
+        to: "Some(b'/') => REMAINDER",
+    },
+    Edit {
+        says: "a row groups to the left",
+        file: "rule.rs",
+        from: "        for i in (before..self.rows.len()).rev() {
+            rest = self.node(SEQUENCE, [self.rows[i], rest]);
+        }",
+        to: "        self.rows.push(rest);
+        rest = self.rows[before];
+        for i in before + 1..self.rows.len() {
+            rest = self.node(SEQUENCE, [rest, self.rows[i]]);
+        }",
+    },
+    Edit {
+        says: "the statements of the row outside are joined inside",
+        file: "rule.rs",
+        from: "        for i in (before..self.rows.len()).rev() {",
+        to: "        let before = before.saturating_sub(1);
+        for i in (before..self.rows.len()).rev() {",
+    },
+    Edit {
+        says: "and groups to the right",
+        file: "rule.rs",
+        from: "            let right = self.negation()?;",
+        to: "            let right = self.boolean()?;",
+    },
+    Edit {
+        says: "not reaches over an and",
+        file: "rule.rs",
+        from: "        let test = self.test()?;",
+        to: "        let test = self.boolean()?;",
+    },
+    Edit {
+        says: "not not is accepted",
+        file: "rule.rs",
+        from: "        let test = self.test()?;",
+        to: "        let test = self.negation()?;",
+    },
+    Edit {
+        says: "the sides of a choose are the other way round",
+        file: "rule.rs",
+        from: "[test, yes, no]))
+    }
+
+    /// \"Joined by",
+        to: "[test, no, yes]))
+    }
+
+    /// \"Joined by",
+    },
+    // Levels.
+    Edit {
+        says: "257 levels pass",
+        file: "rule.rs",
+        from: "MOST_NESTED: u32 = 256",
+        to: "MOST_NESTED: u32 = 257",
+    },
+    Edit {
+        says: "256 levels do not pass",
+        file: "rule.rs",
+        from: "MOST_NESTED: u32 = 256",
+        to: "MOST_NESTED: u32 = 255",
+    },
+    Edit {
+        says: "a choose and its brackets are two levels",
+        file: "rule.rs",
+        from: "        self.word(b\"choose\")?;
+        self.sign(b'(')?;
+        let test = self.boolean()?;
+        self.sign(b',')?;
+        let yes = self.arithmetic()?;
+        self.sign(b',')?;
+        let no = self.arithmetic()?;
+        self.sign(b')')?;",
+        to: "        self.word(b\"choose\")?;
+        self.open()?;
+        self.sign(b'(')?;
+        let test = self.boolean()?;
+        self.sign(b',')?;
+        let yes = self.arithmetic()?;
+        self.sign(b',')?;
+        let no = self.arithmetic()?;
+        self.sign(b')')?;
+        self.close();",
+    },
+    Edit {
+        says: "a choose may be a 257th level",
+        file: "rule.rs",
+        from: "        self.open()?;
+        self.word(b\"choose\")?;",
+        to: "        self.nested += 1;
+        self.word(b\"choose\")?;",
+    },
+    Edit {
+        says: "the test of an if is outside its level",
+        file: "rule.rs",
+        from: "        self.open()?;
+        self.word(b\"if\")?;
+        let test = self.boolean()?;
+        self.word(b\"then\")?;",
+        to: "        if self.nested == MOST_NESTED {
+            return Err(Stopped);
+        }
+        self.word(b\"if\")?;
+        let test = self.boolean()?;
+        self.word(b\"then\")?;
+        self.open()?;",
+    },
+    Edit {
+        says: "the test of a while is outside its level",
+        file: "rule.rs",
+        from: "        self.open()?;
+        self.word(b\"while\")?;
+        let test = self.boolean()?;
+        self.word(b\"do\")?;",
+        to: "        if self.nested == MOST_NESTED {
+            return Err(Stopped);
+        }
+        self.word(b\"while\")?;
+        let test = self.boolean()?;
+        self.word(b\"do\")?;
+        self.open()?;",
+    },
+    Edit {
+        says: "round brackets are no level",
+        file: "rule.rs",
+        from: "                self.open()?;
+                self.sign(b'(')?;
+                let inner = self.arithmetic()?;
+                self.sign(b')')?;
+                self.close();",
+        to: "                self.sign(b'(')?;
+                let inner = self.arithmetic()?;
+                self.sign(b')')?;",
+    },
+    Edit {
+        says: "square brackets are no level",
+        file: "rule.rs",
+        from: "                self.open()?;
+                self.sign(b'[')?;
+                let inner = self.boolean()?;
+                self.sign(b']')?;
+                self.close();",
+        to: "                self.sign(b'[')?;
+                let inner = self.boolean()?;
+                self.sign(b']')?;",
+    },
+    Edit {
+        says: "a level that is closed still counts",
+        file: "rule.rs",
+        from: "        self.nested -= 1;",
+        to: "",
+    },
+    Edit {
+        says: "the place of a bracket too many is after it",
+        file: "rule.rs",
+        from: "                self.open()?;
+                self.sign(b'(')?;",
+        to: "                self.sign(b'(')?;
+                self.open()?;",
+    },
+    Edit {
+        says: "the place of an if too many is after its word",
+        file: "rule.rs",
+        from: "        self.open()?;
+        self.word(b\"if\")?;",
+        to: "        self.word(b\"if\")?;
+        self.open()?;",
+    },
+    Edit {
+        says: "the place of a choose too many is before its bracket",
+        file: "rule.rs",
+        from: "        self.open()?;
+        self.word(b\"choose\")?;",
+        to: "        self.word(b\"choose\")?;
+        self.open()?;",
+    },
+    // Words, numbers and signs of typed rules.
+    Edit {
+        says: "a leading zero is taken",
+        file: "rule.rs",
+        from: "number == 0 || number > (most - digit) / 10",
+        to: "number > (most - digit) / 10",
+    },
+    Edit {
+        says: "a leading zero is taken in a variable",
+        file: "rule.rs",
+        from: "number == 0 || number > (most - digit) / 10",
+        to: "number == 0 && most == MOST_NUMBER || number > (most - digit) / 10",
+    },
+    Edit {
+        says: "v32 is taken",
+        file: "rule.rs",
+        from: "LAST_VARIABLE: u32 = 31",
+        to: "LAST_VARIABLE: u32 = 32",
+    },
+    Edit {
+        says: "v31 is not taken",
+        file: "rule.rs",
+        from: "LAST_VARIABLE: u32 = 31",
+        to: "LAST_VARIABLE: u32 = 30",
+    },
+    Edit {
+        says: "2147483648 is taken",
+        file: "rule.rs",
+        from: "MOST_NUMBER: u32 = 2_147_483_647",
+        to: "MOST_NUMBER: u32 = 2_147_483_648",
+    },
+    Edit {
+        says: "2147483647 is not taken",
+        file: "rule.rs",
+        from: "MOST_NUMBER: u32 = 2_147_483_647",
+        to: "MOST_NUMBER: u32 = 2_147_483_646",
+    },
+    Edit {
+        says: "a number over the limit wraps",
+        file: "rule.rs",
+        from: "            if number == 0 || number > (most - digit) / 10 {
+                return Err(Stopped);
+            }
+            number = 10 * number + digit;",
+        to: "            if number == 0 || most == LAST_VARIABLE && number > (most - digit) / 10 {
+                return Err(Stopped);
+            }
+            number = number.wrapping_mul(10).wrapping_add(digit);",
+    },
+    Edit {
+        says: "a number over the limit has its place at its start",
+        file: "rule.rs",
+        from: "            if number == 0 || number > (most - digit) / 10 {
+                return Err(Stopped);",
+        to: "            if number == 0 || number > (most - digit) / 10 {
+                while self.text[self.place - 1].is_ascii_digit() {
+                    self.place -= 1;
+                }
+                return Err(Stopped);",
+    },
+    Edit {
+        says: "a number over the limit has its place at its end",
+        file: "rule.rs",
+        from: "            if number == 0 || number > (most - digit) / 10 {
+                return Err(Stopped);",
+        to: "            if number == 0 || number > (most - digit) / 10 {
+                while self.digit().is_some() {
+                    self.place += 1;
+                }
+                return Err(Stopped);",
+    },
+    Edit {
+        says: "two words may run together",
+        file: "rule.rs",
+        from: "        if self.peek().is_some_and(|byte| byte.is_ascii_alphanumeric()) {
+            return Err(Stopped);
+        }",
+        to: "",
+    },
+    Edit {
+        says: "a digit may follow a word at once",
+        file: "rule.rs",
+        from: "byte.is_ascii_alphanumeric()",
+        to: "byte.is_ascii_alphabetic()",
+    },
+    Edit {
+        says: "a letter may follow a word at once",
+        file: "rule.rs",
+        from: "byte.is_ascii_alphanumeric()",
+        to: "byte.is_ascii_digit()",
+    },
+    Edit {
+        says: "a bracket may not follow a word at once",
+        file: "rule.rs",
+        from: "byte.is_ascii_alphanumeric()",
+        to: "byte.is_ascii_alphanumeric() || byte == b'('",
+    },
+    Edit {
+        says: "capital letters are taken",
+        file: "rule.rs",
+        from: "self.peek() != Some(byte)",
+        to: "self.peek().map(|found| found.to_ascii_lowercase()) != Some(byte)",
+    },
+    Edit {
+        says: "a choose's bracket must follow it at once",
+        file: "rule.rs",
+        from: "        self.word(b\"choose\")?;
+        self.sign(b'(')?;",
+        to: "        self.bytes(b\"choose(\")?;
+        self.blanks();",
+    },
+    Edit {
+        says: "blanks may part := in two",
+        file: "rule.rs",
+        from: "        self.bytes(b\":=\")?;",
+        to: "        self.sign(b':')?;
+        self.bytes(b\"=\")?;",
+    },
+    Edit {
+        says: "blanks may part <= in two",
+        file: "rule.rs",
+        from: "        let kind = match (first, self.peek()) {",
+        to: "        self.blanks();
+        let kind = match (first, self.peek()) {",
+    },
+    Edit {
+        says: "= is read as at most",
+        file: "rule.rs",
+        from: "(Some(b'='), _) => EQUAL",
+        to: "(Some(b'='), _) => AT_MOST",
+    },
+    Edit {
+        says: "== is taken",
+        file: "rule.rs",
+        from: "            (Some(b'='), _) => EQUAL,",
+        to: "            (Some(b'='), Some(b'=')) => {
+                self.place += 1;
+                EQUAL
+            }
+            (Some(b'='), _) => EQUAL,",
+    },
+    Edit {
+        says: "a tab is a blank",
+        file: "rule.rs",
+        from: "Some(b' ' | b'\\n')",
+        to: "Some(b' ' | b'\\n' | b'\\t')",
+    },
+    Edit {
+        says: "a carriage return is a blank",
+        file: "rule.rs",
+        from: "Some(b' ' | b'\\n')",
+        to: "Some(b' ' | b'\\n' | b'\\r')",
+    },
+    Edit {
+        says: "a newline is no blank",
+        file: "rule.rs",
+        from: "Some(b' ' | b'\\n')",
+        to: "Some(b' ')",
+    },
+    Edit {
+        says: "no blank may stand before the first word",
+        file: "rule.rs",
+        from: "        self.blanks();
+        let root",
+        to: "        let root",
+    },
+    Edit {
+        says: "what stands after a rule is not looked at",
+        file: "rule.rs",
+        from: "self.place < self.text.len()",
+        to: "false",
+    },
+    Edit {
+        says: "a rule may end in ;",
+        file: "rule.rs",
+        from: "            self.past_sign();
+            self.rows.push(rest);",
+        to: "            self.past_sign();
+            if self.peek().is_none() {
+                break;
+            }
+            self.rows.push(rest);",
+    },
+    Edit {
+        says: "no statement at all is a skip",
+        file: "rule.rs",
+        from: "            Some(b'w') => self.while_do(),",
+        to: "            Some(b'w') => self.while_do(),
+            None if self.nodes.is_empty() => Ok(self.node(SKIP, [])),",
+    },
+    Edit {
+        says: "an if needs no else",
+        file: "rule.rs",
+        from: "        self.word(b\"else\")?;
+        let no = self.row()?;",
+        to: "        let no = if self.text[self.place..].starts_with(b\"en\") {
+            self.node(SKIP, [])
+        } else {
+            self.word(b\"else\")?;
+            self.row()?
+        };",
+    },
+    // The place of 17.
+    Edit {
+        says: "the place is one too far",
+        file: "rule.rs",
+        from: "refuse(17, reader.place)",
+        to: "refuse(17, reader.place + 1)",
+    },
+    Edit {
+        says: "the place is at the start of a word that breaks off",
+        file: "rule.rs",
+        from: "        for &byte in bytes {
+            if self.peek() != Some(byte) {",
+        to: "        let start = self.place;
+        for &byte in bytes {
+            if self.peek() != Some(byte) {
+                self.place = start;",
+    },
+    Edit {
+        says: "the place is before the blanks",
+        file: "rule.rs",
+        from: "        return refuse(17, reader.place);",
+        to: "        return refuse(17, text[..reader.place].trim_ascii_end().len());",
+    },
+    Edit {
+        says: "the place is counted in lines",
+        file: "rule.rs",
+        from: "        return refuse(17, reader.place);",
+        to: "        return refuse(17, text[..reader.place].iter().filter(|&&byte| byte == b'\\n').count());",
+    },
+    Edit {
+        says: "the place of a word with more behind it is its start",
+        file: "rule.rs",
+        from: "        self.bytes(word)?;
+        self.end_word()",
+        to: "        self.bytes(word)?;
+        let end = self.place;
+        self.end_word().inspect_err(|_| self.place = end - word.len())",
+    },
+    // The limits of a typed rule, and the order of its refusals.
+    Edit {
+        says: "1,025 nodes pass",
+        file: "rule.rs",
+        from: "reader.nodes.len() > MOST_NODES",
+        to: "reader.nodes.len() > MOST_NODES + 1",
+    },
+    Edit {
+        says: "1,024 nodes do not pass",
+        file: "rule.rs",
+        from: "reader.nodes.len() > MOST_NODES",
+        to: "reader.nodes.len() >= MOST_NODES",
+    },
+    Edit {
+        says: "a rule of depth 257 passes",
+        file: "rule.rs",
+        from: "root.depth > MOST_DEPTH",
+        to: "root.depth > MOST_DEPTH + 1",
+    },
+    Edit {
+        says: "a rule of depth 256 does not pass",
+        file: "rule.rs",
+        from: "root.depth > MOST_DEPTH",
+        to: "root.depth >= MOST_DEPTH",
+    },
+    Edit {
+        says: "brackets count for the depth",
+        file: "rule.rs",
+        from: "                self.sign(b')')?;
+                self.close();
+                Ok(inner)",
+        to: "                self.sign(b')')?;
+                self.close();
+                Ok(Part { depth: inner.depth + 1, ..inner })",
+    },
+    Edit {
+        says: "the depth is that of the first child",
+        file: "rule.rs",
+        from: "            deepest = child.depth.max(deepest);",
+        to: "            deepest = if deepest == 0 { child.depth } else { deepest };",
+    },
+    Edit {
+        says: "refusal 1 comes before 17",
+        file: "rule.rs",
+        from: "    let Ok(root) = reader.rule() else {",
+        to: "    let Ok(root) = reader.rule() else {
+        if reader.nodes.len() > MOST_NODES {
+            return refuse(1, 0);
+        }",
+    },
+    Edit {
+        says: "refusal 9 comes before 1",
+        file: "rule.rs",
+        from: "    if reader.nodes.len() > MOST_NODES {",
+        to: "    if root.depth > MOST_DEPTH {
+        return refuse(9, 0);
+    }
+    if reader.nodes.len() > MOST_NODES {",
+    },
+    Edit {
+        says: "refusal 15 comes before 9",
+        file: "rule.rs",
+        from: "    if root.depth > MOST_DEPTH {",
+        to: "    if room.len() < 4 * reader.nodes.len() {
+        return refuse(15, 0);
+    }
+    if root.depth > MOST_DEPTH {",
+    },
+    Edit {
+        says: "refusal 15 comes before 1 in a rule",
+        file: "rule.rs",
+        from: "    if reader.nodes.len() > MOST_NODES {",
+        to: "    if room.len() < 4 * reader.nodes.len() {
+        return refuse(15, 0);
+    }
+    if reader.nodes.len() > MOST_NODES {",
+    },
+    Edit {
+        says: "refusal 15 comes before 17",
+        file: "rule.rs",
+        from: "    let Ok(root) = reader.rule() else {",
+        to: "    let Ok(root) = reader.rule() else {
+        if room.len() < 4 * reader.nodes.len() {
+            return refuse(15, 0);
+        }",
+    },
+    Edit {
+        says: "a rule's room may be one word short",
+        file: "rule.rs",
+        from: "    if room.len() < words.len() {
+        return refuse(15, 0);
+    }
+    room[..words.len()].copy_from_slice(words);",
+        to: "    if room.len() + 1 < words.len() {
+        return refuse(15, 0);
+    }
+    let fits = words.len().min(room.len());
+    room[..fits].copy_from_slice(&words[..fits]);",
+    },
+    Edit {
+        says: "the room holds what fits of a rule refused 15",
+        file: "rule.rs",
+        from: "    if room.len() < words.len() {",
+        to: "    if room.len() < words.len() {
+        room.copy_from_slice(&words[..room.len()]);",
+    },
+    Edit {
+        says: "the room holds the nodes before the place",
+        file: "rule.rs",
+        from: "    let Ok(root) = reader.rule() else {",
+        to: "    let Ok(root) = reader.rule() else {
+        for (word, node) in room.iter_mut().zip(reader.nodes.as_flattened()) {
+            *word = *node;
+        }",
+    },
+    Edit {
+        says: "the room behind a rule's table is cleared",
+        file: "rule.rs",
+        from: "    room[..words.len()].copy_from_slice(words);",
+        to: "    room[..words.len()].copy_from_slice(words);
+    room[words.len()..].fill(0);",
+    },
+    Edit {
+        says: "a rule's nodes are told, not its words",
+        file: "rule.rs",
+        from: "Ok(done(0, words.len() as u32))",
+        to: "Ok(done(0, words.len() as u32 / 4))",
+    },
 ];

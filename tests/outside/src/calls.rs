@@ -1,4 +1,4 @@
-//! The seven calls of the C boundary as function pointers, so that the library, the oracle and the oracle's mutants can
+//! The eight calls of the C boundary as function pointers, so that the library, the oracle and the oracle's mutants can
 //! all stand on the tested side. A slice passes as pointer and length, an answer as a pointer to eight words.
 
 #[derive(Clone, Copy)]
@@ -22,6 +22,7 @@ pub struct Calls {
     ),
     pub read_text: unsafe extern "C" fn(*const u8, usize, *mut u32, usize, *mut u32),
     pub write_text: unsafe extern "C" fn(*const u32, usize, *mut u8, usize, *mut u32),
+    pub read_rule: unsafe extern "C" fn(*const u8, usize, *mut u32, usize, *mut u32),
 }
 
 #[cfg(not(feature = "self-test"))]
@@ -70,6 +71,7 @@ mod library {
         );
         pub fn rill_read_text(text: *const u8, text_len: usize, room: *mut u32, room_len: usize, answer: *mut u32);
         pub fn rill_write_text(words: *const u32, words_len: usize, room: *mut u8, room_len: usize, answer: *mut u32);
+        pub fn rill_read_rule(text: *const u8, text_len: usize, room: *mut u32, room_len: usize, answer: *mut u32);
     }
 }
 
@@ -87,6 +89,7 @@ pub fn subject() -> Calls {
         run_depot: library::rill_run_depot,
         read_text: library::rill_read_text,
         write_text: library::rill_write_text,
+        read_rule: library::rill_read_rule,
     }
 }
 
@@ -96,7 +99,7 @@ pub fn subject() -> Calls {
     crate::calls_of!(crate::oracle)
 }
 
-/// Makes the seven calls of a module shaped like `oracle`. A panic, which only a mutant can raise, must not leave an
+/// Makes the eight calls of a module shaped like `oracle`. A panic, which only a mutant can raise, must not leave an
 /// `extern "C"` function: it becomes an answer that is never right.
 #[macro_export]
 macro_rules! calls_of {
@@ -201,6 +204,15 @@ macro_rules! calls_of {
         ) {
             give(answer, || module::write_text(from_raw_parts(words, words_len), from_raw_parts_mut(room, room_len)))
         }
-        $crate::calls::Calls { check, compile, run_source, run_code, run_depot, read_text, write_text }
+        unsafe extern "C" fn read_rule(
+            text: *const u8,
+            text_len: usize,
+            room: *mut u32,
+            room_len: usize,
+            answer: *mut u32,
+        ) {
+            give(answer, || module::read_rule(from_raw_parts(text, text_len), from_raw_parts_mut(room, room_len)))
+        }
+        $crate::calls::Calls { check, compile, run_source, run_code, run_depot, read_text, write_text, read_rule }
     }};
 }

@@ -14,11 +14,20 @@ pub enum Call {
     RunDepot,
     ReadText,
     WriteText,
+    ReadRule,
 }
 
 impl Call {
-    pub const ALL: [Call; 7] =
-        [Call::Check, Call::Compile, Call::RunSource, Call::RunCode, Call::RunDepot, Call::ReadText, Call::WriteText];
+    pub const ALL: [Call; 8] = [
+        Call::Check,
+        Call::Compile,
+        Call::RunSource,
+        Call::RunCode,
+        Call::RunDepot,
+        Call::ReadText,
+        Call::WriteText,
+        Call::ReadRule,
+    ];
 
     pub fn name(self) -> &'static str {
         match self {
@@ -29,6 +38,7 @@ impl Call {
             Call::RunDepot => "run_depot",
             Call::ReadText => "read_text",
             Call::WriteText => "write_text",
+            Call::ReadRule => "read_rule",
         }
     }
 }
@@ -42,6 +52,7 @@ pub enum Case {
     RunDepot { table: Vec<u32>, code: Vec<u32>, start: u32, stores: Vec<i32>, fuel: u32, room: Vec<u32> },
     ReadText { text: Vec<u8>, room: Vec<u32> },
     WriteText { words: Vec<u32>, room: Vec<u8> },
+    ReadRule { text: Vec<u8>, room: Vec<u32> },
 }
 
 /// The answer, and what the call might alter, as it is afterwards.
@@ -70,6 +81,7 @@ impl Case {
             Case::RunDepot { .. } => Call::RunDepot,
             Case::ReadText { .. } => Call::ReadText,
             Case::WriteText { .. } => Call::WriteText,
+            Case::ReadRule { .. } => Call::ReadRule,
         }
     }
 
@@ -90,6 +102,7 @@ impl Case {
             }
             Case::ReadText { text, mut room } => (oracle::read_text(&text, &mut room), Buffer::Words(room)),
             Case::WriteText { words, mut room } => (oracle::write_text(&words, &mut room), Buffer::Bytes(room)),
+            Case::ReadRule { text, mut room } => (oracle::read_rule(&text, &mut room), Buffer::Words(room)),
         };
         Outcome { answer, after }
     }
@@ -123,12 +136,19 @@ impl Case {
                 let (answer, room) = guarded.write_text(words, room);
                 (answer, Buffer::Bytes(room))
             }
+            Case::ReadRule { text, room } => {
+                let (answer, room) = guarded.read_rule(text, room);
+                (answer, Buffer::Words(room))
+            }
         };
         (Outcome { answer, after }, guarded.trespasses())
     }
 }
 
-/// The inputs in full, in hexadecimal.
+/// Of a rule's text, which may have megabytes of blanks, no more than these bytes are printed.
+const LONGEST_SHOWN: usize = 20_000;
+
+/// The inputs in full, in hexadecimal; but a rule as it was typed.
 impl Display for Case {
     fn fmt(&self, f: &mut Formatter) -> fmt::Result {
         writeln!(f, "{}", self.call().name())?;
@@ -166,6 +186,11 @@ impl Display for Case {
             Case::WriteText { words, room } => {
                 list(f, "words", words, 4)?;
                 list(f, "room", room, 33)
+            }
+            Case::ReadRule { text, room } => {
+                let shown = &text[..text.len().min(LONGEST_SHOWN)];
+                writeln!(f, "  text, {} bytes\n    {}", text.len(), shown.escape_ascii())?;
+                list(f, "room", room, 4)
             }
         }
     }

@@ -2,9 +2,9 @@
 
 use crate::calls::Calls;
 use crate::case::{Case, Outcome};
-use crate::families::{long_runs, ROUND};
+use crate::families::{long_rules, long_runs, ROUND};
 use crate::random::Random;
-use crate::round_trips::{code_follows_source, depot_is_its_crews, text_is_read_back};
+use crate::round_trips::*;
 use crate::tally::Tally;
 use crate::worked;
 
@@ -46,9 +46,12 @@ pub fn compare(calls: &Calls, plan: &Plan) -> Report {
         report.record(text_is_read_back(calls, &mut random));
         report.record(code_follows_source(calls, &mut random));
         report.record(depot_is_its_crews(calls, &mut random));
+        report.record(rule_is_its_program(calls, &mut random));
+        report.record(place_is_the_longest_beginning(calls, &mut random));
     }
     if report.failed < plan.patience {
         report.try_all(calls, plan, long_runs());
+        report.try_all(calls, plan, long_rules());
     }
     report
 }

@@ -1,4 +1,4 @@
-//! The seven calls over memory that stands between guards. Whoever writes outside what is lent, or alters what is lent
+//! The eight calls over memory that stands between guards. Whoever writes outside what is lent, or alters what is lent
 //! for reading, is found out. The guards change from case to case, so that an answer drawn from them is sometimes wrong.
 
 use crate::calls::Calls;
@@ -20,7 +20,8 @@ impl Element for i32 {
 }
 
 impl Element for u8 {
-    /// A newline or a digit after the text would complete a line that is one byte short.
+    /// A newline or a digit after the text would complete a line that is one byte short; a digit or a letter would go on
+    /// with the last word of a rule.
     const GUARDS: [u8; 5] = [b'\n', b'0', 0, 0xff, b'f'];
 }
 
@@ -166,6 +167,16 @@ impl<'a> Guarded<'a> {
             (self.calls.write_text)(frames.pointer(), frames.len(), room, room_len, answer.pointer());
         }
         self.unaltered("words", frames, words);
+        (self.answered(answer), self.returned("room", room))
+    }
+
+    pub fn read_rule(&mut self, text: &[u8], room: &[u32]) -> (Answer, Vec<u32>) {
+        let (mut bytes, mut room, mut answer) = (self.lend(text), self.lend(room), self.lend_answer());
+        unsafe {
+            let (room, room_len) = (room.pointer(), room.len());
+            (self.calls.read_rule)(bytes.pointer(), bytes.len(), room, room_len, answer.pointer());
+        }
+        self.unaltered("text", bytes, text);
         (self.answered(answer), self.returned("room", room))
     }
 

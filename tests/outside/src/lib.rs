@@ -1,4 +1,4 @@
-//! The static library of Rillgiggle, seen from outside: a plain implementation of document 01 and request A1 (`oracle`),
+//! The static library of Rillgiggle, seen from outside: a plain implementation of document 01 and its requests (`oracle`),
 //! the calls of the C boundary (`calls`, and `guarded` over lent memory that is watched), random inputs, and their
 //! comparison.
 
@@ -14,4 +14,5 @@ pub mod rivals;
 pub mod round_trips;
 pub mod tally;
 pub mod trees;
+pub mod typed;
 pub mod worked;

@@ -26,7 +26,7 @@ fn main() -> ExitCode {
 }
 
 fn plan(mut words: impl Iterator<Item = String>) -> Result<Plan, String> {
-    let mut plan = Plan { seed: 1, count: 60_000, patience: usize::MAX, trace: false };
+    let mut plan = Plan { seed: 1, count: 90_000, patience: usize::MAX, trace: false };
     while let Some(word) = words.next() {
         let mut number = || match words.next().map(|number| number.parse()) {
             Some(Ok(number)) => Ok(number),

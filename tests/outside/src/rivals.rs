@@ -5,7 +5,7 @@ use crate::case::{Call, Case};
 use crate::oracle::answer::Refusal;
 use crate::oracle::code::LAST_TARGET;
 use crate::oracle::table::{self, class_at, class_of, frame, words_used, Class, Word, VARIABLES};
-use crate::oracle::{self, depot, text};
+use crate::oracle::{self, depot, rule, text};
 
 #[derive(Clone, Copy, Debug, PartialEq, Eq, PartialOrd, Ord)]
 pub enum Where {
@@ -14,6 +14,8 @@ pub enum Where {
     Elsewhere,
     /// Elsewhere, in a depot. Counted apart: that a code run keeps the order says nothing of a depot.
     InDepot,
+    /// In a typed rule, where the order is another.
+    InRule,
 }
 
 /// The grounds that lost against the refusal told, with where they stand to it.
@@ -25,6 +27,7 @@ pub fn rivals(case: &Case, told: Refusal) -> Vec<(Where, u32)> {
             true if ground.place == told.place => (Where::SameNode, ground.number),
             true => (Where::LaterNode, ground.number),
             false if case.call() == Call::RunDepot => (Where::InDepot, ground.number),
+            false if case.call() == Call::ReadRule => (Where::InRule, ground.number),
             false => (Where::Elsewhere, ground.number),
         })
         .collect()
@@ -73,6 +76,16 @@ fn grounds(case: &Case) -> Vec<Refusal> {
         Case::WriteText { words, room } => {
             let mut grounds: Vec<Refusal> = text::write(words, &mut [0; 33 * 1024]).err().into_iter().collect();
             add(&mut grounds, room.len() < text::LINE * (words.len() / 4), 15, 0);
+            grounds
+        }
+        Case::ReadRule { text, room } => {
+            // In a text that is not in the grammar, the nodes before the place count.
+            let nodes = rule::nodes_of(text);
+            let stopped = rule::read(text, &mut [0; 4096]).err().filter(|refusal| refusal.number == 17);
+            let mut grounds: Vec<Refusal> = stopped.into_iter().collect();
+            add(&mut grounds, nodes.len() > 4 * table::MOST_NODES, 1, 0);
+            add(&mut grounds, table::depth(&nodes) > table::MOST_DEPTH, 9, 0);
+            add(&mut grounds, room.len() < nodes.len(), 15, 0);
             grounds
         }
     }

@@ -3,8 +3,10 @@
 use crate::case::{Buffer, Call, Case, Outcome};
 use crate::oracle::answer::{Refusal, DONE, FINISHED, OUT_OF_FUEL, REFUSED};
 use crate::oracle::depot::{MOST_CREWS, ROW};
+use crate::oracle::rule;
 use crate::oracle::table::VARIABLES;
 use crate::rivals::{rivals, Where};
+use crate::typed::{self, RULES};
 use std::collections::BTreeMap;
 use std::fmt::{self, Display, Formatter};
 
@@ -14,7 +16,7 @@ type Kind = (Call, u32, u32);
 type Contest = (Where, u32, u32);
 
 /// The last number of a refusal.
-const LAST_NUMBER: u32 = 16;
+const LAST_NUMBER: u32 = 17;
 
 /// What some of the depots that are done ought to be.
 const DEPOTS: [&str; 4] = ["no crews", "one crew", "512 crews", "crews finished and crews out of fuel"];
@@ -24,6 +26,7 @@ pub struct Tally {
     answers: BTreeMap<Kind, usize>,
     contests: BTreeMap<Contest, usize>,
     depots: [usize; DEPOTS.len()],
+    rules: [usize; RULES.len()],
 }
 
 impl Tally {
@@ -35,17 +38,22 @@ impl Tally {
             for (place, rival) in rivals(case, told) {
                 *self.contests.entry((place, number, rival)).or_default() += 1;
             }
-        } else if let Buffer::Depot { stores, room } = &outcome.after {
-            self.count_depot(stores.len() / VARIABLES, room);
+        }
+        match (case, &outcome.after) {
+            (_, Buffer::Depot { stores, room }) if verdict != REFUSED => {
+                self.count_depot(stores.len() / VARIABLES, room);
+            }
+            (Case::ReadRule { text, room }, _) => {
+                let is = typed::examples(text, room, &rule::nodes_of(text), outcome);
+                add_up(&mut self.rules, is);
+            }
+            _ => {}
         }
     }
 
     fn count_depot(&mut self, crews: usize, room: &[u32]) {
         let some = |wanted| room.chunks_exact(ROW).take(crews).any(|row| row[0] == wanted);
-        let is = [crews == 0, crews == 1, crews == MOST_CREWS, some(0) && some(1)];
-        for (count, is) in self.depots.iter_mut().zip(is) {
-            *count += usize::from(is);
-        }
+        add_up(&mut self.depots, [crews == 0, crews == 1, crews == MOST_CREWS, some(0) && some(1)]);
     }
 
     /// How many cases were counted.
@@ -72,6 +80,9 @@ impl Tally {
         for (name, _) in DEPOTS.iter().zip(self.depots).filter(|(_, times)| *times == 0) {
             complaints.push(format!("no depot was done with {name}"));
         }
+        for (name, _) in RULES.iter().zip(self.rules).filter(|(_, times)| *times == 0) {
+            complaints.push(format!("no typed rule had {name}"));
+        }
         let expected = expected_answers();
         for kind in self.answers.keys().filter(|kind| !expected.contains(kind)) {
             complaints.push(format!("{} is no answer of that call", describe(kind)));
@@ -80,8 +91,14 @@ impl Tally {
     }
 }
 
+fn add_up<const N: usize>(counts: &mut [usize; N], is: [bool; N]) {
+    for (count, is) in counts.iter_mut().zip(is) {
+        *count += usize::from(is);
+    }
+}
+
 /// "The table check gives 1 to 9; compiling 1 to 9, 11, 12; a source run 1 to 10; a code run 1 to 11 and 13; reading and
-/// writing text 14, 15." A depot adds 16 to those of a code run.
+/// writing text 14, 15." A depot adds 16 to those of a code run; reading a typed rule gives 17, 1, 9, 15.
 fn expected_answers() -> Vec<Kind> {
     let mut expected = Vec::new();
     for call in Call::ALL {
@@ -92,6 +109,7 @@ fn expected_answers() -> Vec<Kind> {
             Call::RunCode => (&[FINISHED, OUT_OF_FUEL], (1..=11).chain([13]).collect()),
             Call::RunDepot => (&[DONE], (1..=11).chain([13, 16]).collect()),
             Call::ReadText | Call::WriteText => (&[DONE], vec![14, 15]),
+            Call::ReadRule => (&[DONE], vec![17, 1, 9, 15]),
         };
         expected.extend(verdicts.iter().map(|&verdict| (call, verdict, 0)));
         expected.extend(numbers.iter().map(|&number| (call, REFUSED, number)));
@@ -123,6 +141,9 @@ fn expected_contests() -> Vec<Contest> {
     pairs(Where::InDepot, &[10], &[11, 13, 16]);
     pairs(Where::InDepot, &[11], &[13, 16]);
     pairs(Where::InDepot, &[13], &[16]);
+    pairs(Where::InRule, &[17], &[1, 9, 15]);
+    pairs(Where::InRule, &[1], &[9, 15]);
+    pairs(Where::InRule, &[9], &[15]);
     expected
 }
 
@@ -142,6 +163,7 @@ fn place_name(place: Where) -> &'static str {
         Where::LaterNode => "at a later node",
         Where::Elsewhere => "elsewhere",
         Where::InDepot => "in a depot",
+        Where::InRule => "in a typed rule",
     }
 }
 
@@ -149,13 +171,17 @@ impl Display for Tally {
     fn fmt(&self, f: &mut Formatter) -> fmt::Result {
         self.answer_table(f)?;
         writeln!(f, "\nRefusals that competed (told over rival: times)")?;
-        for place in [Where::SameNode, Where::LaterNode, Where::Elsewhere, Where::InDepot] {
+        for place in [Where::SameNode, Where::LaterNode, Where::Elsewhere, Where::InDepot, Where::InRule] {
             self.contest_lines(f, place)?;
         }
-        let depots: Vec<String> =
-            DEPOTS.iter().zip(self.depots).map(|(name, times)| format!("{name}: {times}")).collect();
-        writeln!(f, "\nDepots that were done, with {}", depots.join(", "))
+        writeln!(f, "\nDepots that were done, with {}", times(&DEPOTS, &self.depots))?;
+        writeln!(f, "Typed rules with {}", times(&RULES, &self.rules))
     }
+}
+
+fn times(names: &[&str], counts: &[usize]) -> String {
+    let each: Vec<String> = names.iter().zip(counts).map(|(name, count)| format!("{name}: {count}")).collect();
+    each.join(", ")
 }
 
 impl Tally {

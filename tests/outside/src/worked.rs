@@ -1,12 +1,14 @@
-//! The worked runs of document 01, with their answers as the document gives them, and depots worked out by hand. The
-//! oracle must give them too.
+//! The worked runs of document 01, with their answers as the document gives them, and depots and typed rules worked out by
+//! hand. The oracle must give them too.
+
+mod rules;
 
 use crate::case::{Buffer, Case, Outcome};
 use crate::oracle::answer::{done, finished, out_of_fuel, refused, Answer, Refusal};
 use crate::trees::*;
 
 pub struct Worked {
-    pub name: &'static str,
+    pub name: String,
     pub case: Case,
     pub outcome: Outcome,
 }
@@ -54,6 +56,7 @@ pub fn all() -> Vec<Worked> {
     all.extend(values());
     all.extend(limits());
     all.extend(depots());
+    all.extend(rules::all());
     all
 }
 
@@ -183,30 +186,30 @@ fn chain(depth: usize) -> Vec<u32> {
     tree.table()
 }
 
-fn worked(name: &'static str, case: Case, answer: Answer, after: Buffer) -> Worked {
-    Worked { name, case, outcome: Outcome { answer, after } }
+fn worked(name: &str, case: Case, answer: Answer, after: Buffer) -> Worked {
+    Worked { name: name.into(), case, outcome: Outcome { answer, after } }
 }
 
-fn checked(name: &'static str, table: &[u32], answer: Answer) -> Worked {
+fn checked(name: &str, table: &[u32], answer: Answer) -> Worked {
     worked(name, Case::Check { table: table.to_vec() }, answer, Buffer::None)
 }
 
 /// The room has two words more than the code needs; they stay as they are.
-fn compiled(name: &'static str, table: &[u32], start: u32, code: &[u32], answer: Answer) -> Worked {
+fn compiled(name: &str, table: &[u32], start: u32, code: &[u32], answer: Answer) -> Worked {
     let room = vec![9; code.len() + 2];
     let mut after = room.clone();
     after[..code.len()].copy_from_slice(code);
     worked(name, Case::Compile { table: table.to_vec(), start, room }, answer, Buffer::Words(after))
 }
 
-fn ran_source(name: &'static str, table: &[u32], before: &[i32], fuel: u32, answer: Answer, after: &[i32]) -> Worked {
+fn ran_source(name: &str, table: &[u32], before: &[i32], fuel: u32, answer: Answer, after: &[i32]) -> Worked {
     let case = Case::RunSource { table: table.to_vec(), store: store(before), fuel };
     worked(name, case, answer, Buffer::Values(store(after)))
 }
 
 #[allow(clippy::too_many_arguments)]
 fn ran(
-    name: &'static str,
+    name: &str,
     table: &[u32],
     code: &[u32],
     start: u32,
@@ -222,7 +225,7 @@ fn ran(
 /// The loop's table. The room has two words more than the rows need; they stay as they are.
 #[allow(clippy::too_many_arguments)]
 fn depot(
-    name: &'static str,
+    name: &str,
     code: &[u32],
     start: u32,
     before: &[&[i32]],

@@ -5,7 +5,7 @@ use outside::calls::{subject, Calls};
 use outside::compare::{compare, Plan};
 use outside::oracle;
 
-// A mutant is a whole oracle, of which only the seven calls are used.
+// A mutant is a whole oracle, of which only the eight calls are used.
 #[allow(unused)]
 mod mutants {
     use outside::calls::Calls;
@@ -13,7 +13,7 @@ mod mutants {
 }
 
 /// Finds every mutant, and covers all that ought to occur, with any of the seeds 1 to 8.
-const COUNT: usize = 12_000;
+const COUNT: usize = 24_000;
 
 /// Until the first family with a failure.
 fn is_found_out(calls: &Calls) -> bool {
@@ -103,6 +103,24 @@ fn a_byte_read_after_the_text_is_found_out() {
         (subject().read_text)(text, len + beyond, room, room_len, answer);
     }
     assert!(is_found_out(&Calls { read_text, ..subject() }));
+}
+
+#[test]
+fn a_word_written_after_the_room_of_a_rule_is_found_out() {
+    unsafe extern "C" fn read_rule(text: *const u8, len: usize, room: *mut u32, room_len: usize, answer: *mut u32) {
+        (subject().read_rule)(text, len, room, room_len, answer);
+        room.add(room_len).write(7);
+    }
+    assert!(is_found_out(&Calls { read_rule, ..subject() }));
+}
+
+#[test]
+fn a_byte_read_after_the_rule_is_found_out() {
+    // Takes the byte after the text for a part of its last word, or for a blank.
+    unsafe extern "C" fn read_rule(text: *const u8, len: usize, room: *mut u32, room_len: usize, answer: *mut u32) {
+        (subject().read_rule)(text, len + 1, room, room_len, answer);
+    }
+    assert!(is_found_out(&Calls { read_rule, ..subject() }));
 }
 
 #[test]

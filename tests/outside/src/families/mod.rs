@@ -1,6 +1,7 @@
 //! What is tried: each family makes some random cases on one theme.
 
 mod depots;
+mod rules;
 
 use crate::case::Case;
 use crate::generate::*;
@@ -11,6 +12,8 @@ use crate::oracle::table::Class;
 use crate::random::Random;
 use crate::trees::Tree;
 use crate::worked::{loop_program, LOOP_CODE};
+
+pub use rules::long_rules;
 
 pub type Family = fn(&mut Random) -> Vec<Case>;
 
@@ -51,6 +54,17 @@ pub const ROUND: &[Family] = &[
     reading,
     writing,
     writing,
+    rules::typed_rules,
+    rules::cut_rules,
+    rules::rules_with_bad_bytes,
+    rules::rules_with_bad_tokens,
+    rules::numbers_at_the_edge,
+    rules::nested_rules,
+    rules::rules_of_many_nodes,
+    rules::deep_rules,
+    rules::rules_bad_in_several_ways,
+    rules::any_bytes,
+    rules::growing_rules,
 ];
 
 /// No run in a trial goes on longer than this; longer ones are out of fuel.

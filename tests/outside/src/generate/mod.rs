@@ -3,6 +3,7 @@
 pub mod codes;
 pub mod damage;
 pub mod programs;
+pub mod rules;
 pub mod texts;
 
 use crate::oracle::table::{children, VARIABLES};

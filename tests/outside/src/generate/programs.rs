@@ -189,20 +189,25 @@ pub fn deep_and_wide(random: &mut Random, depth: usize, nodes: usize) -> Tree {
 
 /// A shallow statement of exactly this many nodes, at least 3.
 pub fn wide(random: &mut Random, nodes: usize) -> Tree {
+    sequence_of(pieces(random, nodes, 10))
+}
+
+/// Statements of at most `most` nodes each; with the sequences that join them they have exactly this many nodes.
+pub fn pieces(random: &mut Random, nodes: usize, most: usize) -> Vec<Tree> {
     let mut pieces = vec![skip()];
     let mut left = nodes - 1;
     while left > 0 {
         // Each piece costs its nodes and one more for the sequence that joins it.
-        let piece = match left {
-            0..=12 if left.is_multiple_of(2) => skip(),
-            0..=12 => assign(some_variable(random), leaf(random, Class::Arithmetic)),
-            _ => {
-                let size = random.from(1, 10);
-                statement(random, size)
-            }
+        let piece = if left > most + 2 {
+            let size = random.from(1, most);
+            statement(random, size)
+        } else if left.is_multiple_of(2) {
+            skip()
+        } else {
+            assign(some_variable(random), leaf(random, Class::Arithmetic))
         };
         left -= piece.nodes() + 1;
         pieces.push(piece);
     }
-    sequence_of(pieces)
+    pieces
 }

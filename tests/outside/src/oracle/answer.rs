@@ -19,8 +19,10 @@ pub fn refuse<T>(number: u32, place: usize) -> Result<T, Refusal> {
     Err(Refusal { number, place })
 }
 
+/// A place is a word: one past the last, in a text so long, is told as the last.
 pub fn refused(refusal: Refusal) -> Answer {
-    [REFUSED, refusal.number, refusal.place as u32, 0, 0, 0, 0, 0]
+    let place = u32::try_from(refusal.place).unwrap_or(u32::MAX);
+    [REFUSED, refusal.number, place, 0, 0, 0, 0, 0]
 }
 
 pub fn done(label: u32, amount: u32) -> Answer {

@@ -1,6 +1,6 @@
-//! Document 01 and request A1 in plain Rust, written from their text alone.
+//! Document 01 and requests A1, A2 and A4 in plain Rust, written from their text alone.
 //!
-//! The seven calls take what the calls of the C boundary take and give the eight words of the answer. A buffer that the
+//! The eight calls take what the calls of the C boundary take and give the eight words of the answer. A buffer that the
 //! call may alter comes as `&mut`; after a refusal it is as it was. Nothing here is tuned: it says what the right answer
 //! is, and the benchmark sets the proved library beside it.
 
@@ -9,6 +9,7 @@ pub mod code;
 pub mod compile;
 pub mod depot;
 pub mod expressions;
+pub mod rule;
 pub mod source;
 pub mod table;
 pub mod text;
@@ -53,4 +54,9 @@ pub fn read_text(text: &[u8], room: &mut [u32]) -> Answer {
 /// Words to text: done with the number of bytes, or refused 14, 15.
 pub fn write_text(words: &[u32], room: &mut [u8]) -> Answer {
     text::write(words, room).unwrap_or_else(refused)
+}
+
+/// A typed rule to the words of its table: done with the number of words, or refused 17, 1, 9, 15, in that order.
+pub fn read_rule(text: &[u8], room: &mut [u32]) -> Answer {
+    rule::read(text, room).unwrap_or_else(refused)
 }
