@@ -1,10 +1,12 @@
 -- Frames are closed one after the other: `close_down`'s invariant, at its start, with one frame more, and at its end.
 use mathlib.Core.Path.{_≡_, refl, sym, ap, _∙_}
-use mathlib.Core.Bool.{true, false}
+use mathlib.Core.Bool.{Bool, true, false}
 use mathlib.Core.List.{List, [], _∷_}
 use Prim.Native.Nat.{ℕ, zero, suc, _+_, _-_, _<_, _≤_}
 use native.Mathlib.Omega.{arith}
+use lib.Dec.{ltb}
 use lib.ListN.{length, getD}
+use borrow.Author.Tests.{ltb-true, ltb-false}
 use Rattle.grammar.specs.Written.{Node}
 use Rattle.tokens.specs.Flat.{sizes}
 use Rattle.tokens.specs.Flat.{Frame, frame, tagOf, figureOf, closing, closes, waitingAll}
@@ -14,7 +16,6 @@ use Rattle.tokens.proofs.NodeLaws.{closing-grown}
 use Rattle.rule.specs.declared.nodes.Built.{Built}
 use Rattle.rule.specs.inside.Nodes.{Holds, Kept, Closable, Closing, Closed}
 use Rattle.rule.specs.inside.Nodes.{figures, AllKinded, closings, Frames, Descending, Descended}
-use Rattle.rule.proofs.MakeLaws.{never}
 
 -- the innermost frame, and the others once it is closed
 record Split (gs : List Frame) (st ar : List ℕ) (i : ℕ) (ms : List Node) : Type 0 where
@@ -60,22 +61,31 @@ closings-grow (suc m) gs ms {st} {ar} (suc i) F h c =
     (λ j l n. c j (omega arith) (omega arith)) in
     rw q (omega arith)
 
+-- the frames from `top` down to `to` are such as may be closed
+abbrev pub Closable-all : List ℕ → ℕ → ℕ → Type 0
+Closable-all st top to = (i : ℕ) → to ≤ i → i < top → closes (getD st i 0) ≡ true
+
 pub record Descent (roots₀ deep₀ words₀ st ar : List ℕ) (b₀ : Built) (top to : ℕ) (roots deep words : List ℕ) (b : Built)
     (i : ℕ) : Type 0 where
-  pub going : (fs : List Frame) (ns : List Node) → Frames fs st ar top ns → Holds ns roots₀ deep₀ words₀ (b₀ .depth) (b₀ .count)
+  pub going : b .count ≤ 1024 → (fs : List Frame) (ns : List Node) → Frames fs st ar top ns → Closable-all st top to
+      → Holds ns roots₀ deep₀ words₀ (b₀ .depth) (b₀ .count)
       → (gs : List Frame) × (ms : List Node) × Frames gs st ar i ms × Holds ms roots deep words (b .depth) (b .count)
       × (closings (i - to) gs ms ≡ closings (top - to) fs ns)
-  pub kept : Kept roots deep words b
-  pub not-full : b .full ≡ false
+  pub crowd : 1024 < b .count → (fs : List Frame) (ns : List Node) → Frames fs st ar top ns → Closable-all st top to
+      → Holds ns roots₀ deep₀ words₀ (b₀ .depth) (b₀ .count) → 1024 < sizes (closings (top - to) fs ns)
+  pub kept : Kept roots deep words b₀ b
   pub at-most : i ≤ top
 
 module _ {roots₀ deep₀ words₀ st ar : List ℕ} {b₀ : Built} {top to : ℕ} (D : Descending roots₀ deep₀ words₀ st ar b₀ top to) where
   pub descent-starts : Descent roots₀ deep₀ words₀ st ar b₀ top to roots₀ deep₀ words₀ b₀ top
   descent-starts =
       record {
-        going = λ fs ns F H. (fs, ns, F, H, refl);
-        kept = record { room = D .room; most = D .most };
-        not-full = D .not-full;
+        going = λ h fs ns F c H. (fs, ns, F, H, refl);
+        crowd = λ h fs ns F c H.
+            let t = H .count-is in
+            let g = closings-grow (top - to) fs ns top F (omega arith) (λ j l n. c j (omega arith) l) in
+            omega arith;
+        kept = record { room = D .room; most = D .most; same = λ e. e };
         at-most = omega arith;
       }
 
@@ -85,32 +95,30 @@ module _ {roots₀ deep₀ words₀ st ar : List ℕ} {b₀ : Built} {top to : �
     descent-ends h =
         let z : i - to ≡ 0 = omega arith in
         record {
-          become = λ fs ns F. record {
-            held = λ e H. let g = G .going fs ns F H in let q = rw z at (g .4) in rw (← q) (g .3);
-            full = λ e H. never e (G .not-full);
+          become = λ fs ns F c. record {
+            held = λ e H. let g = G .going e fs ns F c H in let q = rw z at (g .4) in rw (← q) (g .3);
+            full = λ e H. G .crowd e fs ns F c H;
           };
           kept = G .kept;
         }
 
     module _ {j : ℕ} (h : to < i) (je : j ≡ i - 1) where
-      closes-here : closes (getD st j 0) ≡ true
-      closes-here = let m = G .at-most in D .closes j (omega arith) (omega arith)
+      closes-here : Closable-all st top to → closes (getD st j 0) ≡ true
+      closes-here c = let m = G .at-most in c j (omega arith) (omega arith)
 
       split-here : (gs : List Frame) (ms : List Node) → Frames gs st ar i ms → Split gs st ar j ms
       split-here gs ms F = let z : i ≡ suc j = omega arith in split gs (rw z at F)
 
       pub descent-closes : Closing roots deep words b (getD st j 0) (getD ar j 0)
       descent-closes =
-          let g = G .going (D .frames) (D .nodes) (D .stands) (D .held) in
-          let p = split-here (g .0) (g .1) (g .2) in
           record {
             room = G .kept .room;
-            nodes = g .1;
-            held = g .3;
-            frame = p .frame;
-            closable = p .closable closes-here;
             most = G .kept .most;
-            not-full = G .not-full;
+            some = λ f.
+                let S = D .some (G .kept .same f) in
+                let g = G .going f (S .frames) (S .nodes) (S .stands) (S .closes) (S .held) in
+                let p = split-here (g .0) (g .1) (g .2) in
+                record { nodes = g .1; held = g .3; frame = p .frame; closable = p .closable (closes-here (S .closes)) };
           }
 
       next-closings : (gs others : List Frame) (g : Frame) (ms : List Node) → gs ≡ g ∷ others
@@ -120,40 +128,33 @@ module _ {roots₀ deep₀ words₀ st ar : List ℕ} {b₀ : Built} {top to : �
 
       pub descent-on : {roots₂ deep₂ words₂ : List ℕ} {r : Built}
           → Closed roots deep words b (getD st j 0) (getD ar j 0) roots₂ deep₂ words₂ r
-          → r .full ≡ false → Descent roots₀ deep₀ words₀ st ar b₀ top to roots₂ deep₂ words₂ r j
-      descent-on C f =
+          → Descent roots₀ deep₀ words₀ st ar b₀ top to roots₂ deep₂ words₂ r j
+      descent-on {r = r} C =
           let m = G .at-most in
           record {
-            going = λ fs ns F H.
-                let g = G .going fs ns F H in
+            going = λ f fs ns F c H.
+                let g = G .going (C .kept .same f) fs ns F c H in
                 let p = split-here (g .0) (g .1) (g .2) in (
                   p .others,
                   closing (p .frame) (g .1),
-                  p .stands closes-here,
-                  C .become (p .frame) (g .1) (p .closable closes-here) .held f (g .3),
+                  p .stands (closes-here c),
+                  C .become (p .frame) (g .1) (p .closable (closes-here c)) .held f (g .3),
                   sym (next-closings (g .0) (p .others) (p .frame) (g .1) (p .is)) ∙ g .4,
                 );
-            kept = C .kept;
-            not-full = f;
+            crowd = λ f fs ns F c H. by f fs ns F c H (ltb 1024 (b .count)) refl;
+            kept = record { room = C .kept .room; most = C .kept .most; same = λ e. G .kept .same (C .kept .same e) };
             at-most = omega arith;
           }
-
-      pub descent-full : {roots₂ deep₂ words₂ : List ℕ} {r : Built}
-          → Closed roots deep words b (getD st j 0) (getD ar j 0) roots₂ deep₂ words₂ r
-          → r .full ≡ true → Descended roots₀ deep₀ words₀ st ar b₀ top to roots₂ deep₂ words₂ r
-      descent-full C f =
-          let m = G .at-most in
-          record {
-            become = λ fs ns F. record {
-              held = λ e H. never f e;
-              full = λ e H.
-                  let g = G .going fs ns F H in
-                  let p = split-here (g .0) (g .1) (g .2) in
-                  let big = C .become (p .frame) (g .1) (p .closable closes-here) .full f (g .3) in
-                  let grown = closings-grow (j - to) (p .others) (closing (p .frame) (g .1)) j (p .stands closes-here) (omega arith)
-                  (λ k l n. D .closes k (omega arith) (omega arith)) in
-                  let same = ap sizes (sym (next-closings (g .0) (p .others) (p .frame) (g .1) (p .is)) ∙ g .4) in
-                  omega arith;
-            };
-            kept = C .kept;
-          }
+        where
+          by : 1024 < r .count → (fs : List Frame) (ns : List Node) → Frames fs st ar top ns → Closable-all st top to
+              → Holds ns roots₀ deep₀ words₀ (b₀ .depth) (b₀ .count) → (v : Bool) → ltb 1024 (b .count) ≡ v
+              → 1024 < sizes (closings (top - to) fs ns)
+          by f fs ns F c H true e = G .crowd (ltb-true 1024 (b .count) e) fs ns F c H
+          by f fs ns F c H false e =
+              let g = G .going (ltb-false 1024 (b .count) e) fs ns F c H in
+              let p = split-here (g .0) (g .1) (g .2) in
+              let big = C .become (p .frame) (g .1) (p .closable (closes-here c)) .full f (g .3) in
+              let grown = closings-grow (j - to) (p .others) (closing (p .frame) (g .1)) j (p .stands (closes-here c)) (omega arith)
+              (λ k l n. let m = G .at-most in c k (omega arith) (omega arith)) in
+              let same = ap sizes (sym (next-closings (g .0) (p .others) (p .frame) (g .1) (p .is)) ∙ g .4) in
+              omega arith

@@ -26,7 +26,7 @@ use Rattle.rule.specs.inside.Turns.{Stands, Grown}
 use Rattle.rule.proofs.HoldLaws.{length-least}
 use Rattle.rule.proofs.SeekLaws.{Counting, no-count}
 use Rattle.rule.proofs.SeekLaws.{in-row, found-counting}
-use Rattle.rule.proofs.TurnLaws.{left-passed}
+use Rattle.rule.proofs.TurnLaws.{left-passed, grown-held, grown-crowded}
 
 -- ---- the frames of the next state
 
@@ -115,7 +115,7 @@ left-is S D = same (flatOf S) (ap Shape.leftOf (D .shaped))
 pub turned : {st ar roots deep words st₂ ar₂ roots₂ deep₂ words₂ : List ℕ} {s r : Standing} {b c : Built} {a to x : ℕ} {p : Place}
     (S : State nesting) (t : Token)
     → Stands S st ar roots deep words s b → Located st s (kindOf t) a to → figureNumber (figure t) ≡ x → (l : Leads S t a (stack st to))
-    → Grown st ar roots deep words s b a to x roots₂ deep₂ words₂ c → p .act ≡ a → p .top ≡ to → Entered st ar (s .left) p x st₂ ar₂ r
+    → Grown st ar roots deep words b (s .top) to a x roots₂ deep₂ words₂ c → p .act ≡ a → p .top ≡ to → Entered st ar (s .left) p x st₂ ar₂ r
     → Stands (l .state) st₂ ar₂ roots₂ deep₂ words₂ r c
 turned {st} {ar} {st₂ = st₂} {ar₂ = ar₂} {s = s} {r = r} {b = b} {c = c} {a = a} {to = to} {x = x} {p = p} S t D L n l G pa pt E =
     let sh = enter-shape (leftOf (flatOf S)) (figure t) a (l .frames-left) (l .nodes-left) in
@@ -124,24 +124,24 @@ turned {st} {ar} {st₂ = st₂} {ar₂ = ar₂} {s = s} {r = r} {b = b} {c = c}
     let ta = l .tags-are in
     record {
       shaped = ap forget (l .leads) ∙ sh ∙ rw (li, ta, ← pa, ← pt) (sym e);
-      figured = λ f. figured-next (G .same f);
-      held = λ f. G .held S t D L n l f;
-      crowded = λ f. G .crowded S t D L n l f;
-      kept = G .kept;
+      figured = λ f. figured-next (G .kept .same f);
+      held = grown-held G S t D n l;
+      crowded = grown-crowded G S t D n l;
+      room = G .kept .room;
+      most = G .kept .most;
       st-room = E .room .0 ∙ D .st-room;
       ar-room = E .room .1 ∙ D .ar-room;
     }
   where
-    waits-few : b .full ≡ false → waitingAll (l .frames-left) ≤ 1024
+    waits-few : b .count ≤ 1024 → waitingAll (l .frames-left) ≤ 1024
     waits-few f =
         let w = left-passed S t D l .waits in
         let m = nodes-length S in
         let k = length-least (nodesOf (flatOf S)) in
         let q = D .held f .count-is in
-        let o = D .kept .most in
         omega arith
 
-    figured-next : b .full ≡ false → figures (framesOf (flatOf (l .state))) ≡ stack ar₂ (r .top)
+    figured-next : b .count ≤ 1024 → figures (framesOf (flatOf (l .state))) ≡ stack ar₂ (r .top)
     figured-next f =
         let g = left-passed S t D l .figures-are (D .figured f) in
         let q = enter-figures (leftOf (flatOf S)) (figure t) a (l .frames-left) (l .nodes-left)

@@ -6,7 +6,7 @@ use native.Mathlib.Omega.{arith}
 use lib.Dec.{eqb, lit≤}
 use borrow.Author.Tests.{ne-eqb}
 use Rattle.tokens.specs.Flat.{formOf, arity}
-use Rattle.rule.specs.inside.Nodes.{first, second, third, below, closingForm, closingKind}
+use Rattle.rule.specs.inside.Nodes.{first, second, third, below, kindOfTwo}
 
 -- a number up to 5 is one of six
 pub data Six : ℕ → Type 0 where
@@ -131,7 +131,13 @@ below-one is-3 a b c h n m = absurd (n refl)
 below-one is-4 a b c h n m = absurd (m refl)
 below-one is-5 a b c h n m = refl
 
--- ---- frames
+-- ---- frames: the form and the kind of the node that a frame makes when it is closed
+
+unfoldable pub closingForm : ℕ → ℕ
+closingForm f = cond (eqb f 25) 2 (cond (eqb f 28) 5 3)
+
+unfoldable pub closingKind : ℕ → ℕ → ℕ
+closingKind f x = cond (eqb f 25) 21 (cond (eqb f 28) 33 (kindOfTwo f x))
 
 pub form-not : {f : ℕ} → f ≡ 25 → 2 ≡ closingForm f
 unfolding closingForm
@@ -145,10 +151,6 @@ pub form-two : {f : ℕ} → (f ≡ 25 → ⊥) → (f ≡ 28 → ⊥) → 3 ≡
 unfolding closingForm
 form-two {f} b c = rw (ne-eqb f 25 b, ne-eqb f 28 c)
 
-pub kind-both : {f : ℕ} (x : ℕ) → f ≡ 15 → 22 ≡ closingKind f x
-unfolding closingKind
-kind-both x e = rw e
-
 pub kind-not : {f : ℕ} (x : ℕ) → f ≡ 25 → 21 ≡ closingKind f x
 unfolding closingKind
 kind-not x e = rw e
@@ -157,9 +159,17 @@ pub kind-assign : {f : ℕ} (x : ℕ) → f ≡ 28 → 33 ≡ closingKind f x
 unfolding closingKind
 kind-assign x e = rw e
 
-pub kind-own : {f : ℕ} (x : ℕ) → (f ≡ 15 → ⊥) → (f ≡ 25 → ⊥) → (f ≡ 28 → ⊥) → x ≡ closingKind f x
+pub kind-two : {f : ℕ} (x : ℕ) → (f ≡ 25 → ⊥) → (f ≡ 28 → ⊥) → kindOfTwo f x ≡ closingKind f x
 unfolding closingKind
-kind-own {f} x a b c = rw (ne-eqb f 15 a, ne-eqb f 25 b, ne-eqb f 28 c)
+kind-two {f} x b c = rw (ne-eqb f 25 b, ne-eqb f 28 c)
+
+pub kind-both : {f : ℕ} (x : ℕ) → f ≡ 15 → 22 ≡ kindOfTwo f x
+unfolding kindOfTwo
+kind-both x e = rw e
+
+pub kind-own : {f : ℕ} (x : ℕ) → (f ≡ 15 → ⊥) → x ≡ kindOfTwo f x
+unfolding kindOfTwo
+kind-own {f} x a = rw (ne-eqb f 15 a)
 
 pub form-few : (f : ℕ) → closingForm f ≤ 5
 unfolding closingForm

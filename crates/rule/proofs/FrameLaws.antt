@@ -10,9 +10,8 @@ use Rattle.tokens.specs.Flat.{one, two, formOf, make, arity, sequences, Figure,
 use Rattle.tokens.specs.Flat.{Frame, frame, tagOf, figureOf, closing, closes, waitingIn}
 use Rattle.tokens.proofs.NodeLaws.{Closes, both-parts, row, negated, alone, assignment, operation, closes-as, operation-closing, operation-waits}
 use Rattle.rule.specs.declared.nodes.Built.{Built}
-use Rattle.rule.specs.inside.Nodes.{Making, Made, Rowing, RowMade, closingForm, closingKind, Kinded, Closable, Closing, Closed}
-use Rattle.rule.proofs.FormLaws.{form-few, form-two, kind-own}
-use Rattle.rule.proofs.MakeLaws.{never}
+use Rattle.rule.specs.inside.Nodes.{Making, Made, Rowing, RowMade, kindOfTwo, Kinded, Closable, Closing, Closed}
+use Rattle.rule.proofs.FormLaws.{closingForm, closingKind, form-few, form-two, kind-own, kind-two}
 
 any-two : (k : Kind) (x y : ℕ) (ns : List Node) → make two k x ns ≡ make two k y ns
 unfolding make
@@ -44,7 +43,7 @@ operation-makes j fig ns m K e =
     let w = operation-waits j fig in
     let form : 3 ≡ closingForm (29 + j) = form-two (λ q. omega arith) (λ q. omega arith) in
     let number : figureNumber fig ≡ closingKind (29 + j) (figureNumber fig) =
-    kind-own (figureNumber fig) (λ q. omega arith) (λ q. omega arith) (λ q. omega arith) in
+    kind-own (figureNumber fig) (λ q. omega arith) ∙ kind-two (figureNumber fig) (λ q. omega arith) (λ q. omega arith) in
     record {
       of = figureKind fig;
       is = operation-closing j fig ns ∙ rw (← form) (any-two (figureKind fig) 0 (figureNumber fig) ns);
@@ -55,7 +54,7 @@ operation-makes j fig ns m K e =
 makes-by : {f : ℕ} → Closes f → (fig : Figure) (ns : List Node) (m : ℕ) → Kinded (frame f fig)
     → length ns ≡ suc (waitingIn (frame f fig) + m)
     → (f ≡ 19 → ⊥) → (f ≡ 27 → ⊥) → Makes (frame f fig) f (figureNumber fig) ns
-unfolding closing closingForm closingKind formOf arity waitingIn kindNumber
+unfolding closing closingForm closingKind kindOfTwo formOf arity waitingIn kindNumber
 makes-by both-parts fig ns m K e n l = record { of = both; is = any-two both 0 (figureNumber fig) ns; number = refl; parts = omega arith }
 makes-by row fig ns m K e n l = absurd (n refl)
 makes-by negated fig ns m K e n l =
@@ -98,20 +97,20 @@ module _ {roots deep words : List ℕ} {b : Built} {f x : ℕ} (C : Closing root
       record {
         become = λ F ns c. record {
           held = λ z H. let q = closing-alone F ns (c .tag-is ∙ e) in rw q H;
-          full = λ z H. never z (C .not-full);
+          full = λ z H. let q = closing-alone F ns (c .tag-is ∙ e) in let t = H .count-is in rw q (omega arith);
         };
-        kept = record { room = C .room; most = C .most };
+        kept = record { room = C .room; most = C .most; same = λ e. e };
       }
 
   pub close-groups : f ≡ 19 → Rowing roots deep words b x
   close-groups e =
       record {
         room = C .room;
-        nodes = C .nodes;
-        held = C .held;
-        parts = row-parts (C .closable) e;
         most = C .most;
-        not-full = C .not-full;
+        some = λ h.
+            let S = C .some h in
+            let p = row-parts (S .closable) e in
+            record { nodes = S .nodes; held = S .held; parts = omega arith };
       }
 
   pub close-row : {roots₂ deep₂ words₂ : List ℕ} {r : Built} → f ≡ 19 → RowMade roots deep words b x roots₂ deep₂ words₂ r
@@ -129,12 +128,11 @@ module _ {roots deep words : List ℕ} {b : Built} {f x : ℕ} (C : Closing root
   close-makes l n e =
       record {
         room = C .room;
-        nodes = C .nodes;
-        held = C .held;
-        parts = rw e (makes (C .closable) n l .parts);
         most = C .most;
         form-is = rw e (form-few f);
-        not-full = C .not-full;
+        some = λ h.
+            let S = C .some h in
+            record { nodes = S .nodes; held = S .held; parts = rw e (makes (S .closable) n l .parts) };
       }
 
   pub close-made : {roots₂ deep₂ words₂ : List ℕ} {r : Built} {form kind : ℕ} → (f ≡ 27 → ⊥) → (f ≡ 19 → ⊥) → form ≡ closingForm f

@@ -1,13 +1,15 @@
 -- `write_node` and `make`: a node is made of the last nodes that arrays hold, if it is not the 1,025th.
-use mathlib.Core.Path.{_≡_, refl, ap, _∙_}
-use mathlib.Core.Bool.{Bool, true, false}
+use mathlib.Core.Path.{_≡_, refl, sym, ap, _∙_}
+use mathlib.Core.Bool.{Bool, true, false, cond}
 use mathlib.Core.List.{List, [], _∷_}
-use Prim.Native.Nat.{ℕ, _+_, _-_, _<_, _≤_}
+use Prim.Native.Nat.{ℕ, suc, _+_, _-_, _<_, _≤_}
 use native.Mathlib.Omega.{arith}
+use lib.Dec.{eqb}
 use lib.ListN.{length, getD, set, length-set}
+use borrow.Author.Tests.{eqb-true}
 use Rattle.rules.specs.Table.{Kind}
 use Rattle.grammar.specs.Written.{Node, node, Word, plain, child, kindNumber, size, sizeBelow, depth, depthBelow}
-use Rattle.tokens.specs.Flat.{Form, no-node, leaf, one, two, three, numbered, formOf, make, arity, sizes}
+use Rattle.tokens.specs.Flat.{moveAt, Form, no-node, leaf, one, two, three, numbered, formOf, make, arity, sizes}
 use Rattle.tokens.proofs.NodeLaws.{adds, make-size}
 use Rattle.rule.specs.declared.nodes.Built.{Built}
 use Rattle.rule.specs.inside.Nodes.{depthsOf, Holds, first, second, third, below, Put, Writing, NodeWritten, Making, Made}
@@ -84,6 +86,22 @@ below-few numbered (A ∷ ms) roots deep words base count H h =
 
 -- ---- `write_node`
 
+pub root-asks : {roots deep words : List ℕ} {base n count form : ℕ} → Writing roots deep words base n count form → (i : ℕ)
+    → (eqb n (suc i) ≡ true → 0 < count) × (count ≤ 1024)
+root-asks {n = n} W i = let f = W .free in (λ e. let q = eqb-true n (suc i) e in W .some (omega arith), omega arith)
+
+-- a number that is not read back from the stack is the one that is there
+pub root-is : {roots deep words : List ℕ} {base n count form : ℕ} → Writing roots deep words base n count form → (i j : ℕ) → j ≡ base + i
+    → {r : ℕ} → r ≡ cond (eqb n (suc i)) (count - 1) (getD roots j 0) → r ≡ getD roots j 0
+root-is {roots} {base = base} {n = n} {count = count} W i j e {r} q = by (eqb n (suc i)) refl
+  where
+    by : (b : Bool) → eqb n (suc i) ≡ b → r ≡ getD roots j 0
+    by true t =
+        let l = W .last i (eqb-true n (suc i) t) in
+        let k : r ≡ count - 1 = rw t at q in
+        k ∙ sym l ∙ ap (λ (k : ℕ). getD roots k 0) (sym e)
+    by false t = rw t at q
+
 pub written-is : {roots deep words words₂ : List ℕ} {base count form kind x p q r d e : ℕ}
     → p ≡ first (formOf form) x (getD roots base 0)
     → q ≡ second (formOf form) (getD roots base 0) (getD roots (base + 1) 0) → r ≡ third (formOf form) (getD roots (base + 2) 0)
@@ -94,34 +112,43 @@ written-is pe qe re de ee P = record { roots-are = refl; depths-are = rw (ee, de
 
 -- ---- `make`
 
-pub make-base : {roots deep words : List ℕ} {b : Built} {form m : ℕ} → Making roots deep words b form → m ≡ arity (formOf form)
-    → m ≤ b .depth
-make-base M e = let d = depth-is (M .held) in let p = M .parts in omega arith
+pub make-base : {roots deep words : List ℕ} {b : Built} {form m : ℕ} → Making roots deep words b form → b .count < 1024
+    → m ≡ arity (formOf form) → m ≤ b .depth
+make-base M h e = let S = M .some (omega arith) in let d = depth-is (S .held) in let p = S .parts in omega arith
 
-pub make-writes : {roots deep words : List ℕ} {b : Built} {form m base : ℕ} → Making roots deep words b form → (b .count ≡ 1024 → ⊥)
-    → m ≡ arity (formOf form) → base ≡ b .depth - m → Writing roots deep words base (b .count) form
-make-writes {roots} {deep} {words} {b} {form} {m} {base} M n me be =
-    let H = M .held in
+-- the last node is the last that was written
+last-root : (ns : List Node) {roots deep words : List ℕ} {d count : ℕ} → Holds ns roots deep words d count → (i : ℕ) → d ≡ suc i
+    → getD roots i 0 ≡ count - 1
+unfolding sizes
+last-root [] H i e = let z = depth-is H in absurd (omega arith)
+last-root (N ∷ ms) H i e =
+    let l = last (H .roots-are) (H .depths-are) e .root in
+    let c = H .count-is in
+    omega arith
+
+pub make-writes : {roots deep words : List ℕ} {b : Built} {form m base : ℕ} → Making roots deep words b form → b .count < 1024
+    → m ≡ arity (formOf form) → base ≡ b .depth - m → Writing roots deep words base m (b .count) form
+make-writes {roots} {deep} {words} {b} {form} {m} {base} M h me be =
+    let S = M .some (omega arith) in
+    let H = S .held in
     let d = depth-is H in
-    let p = M .parts in
+    let p = S .parts in
     let z : b .depth ≡ base + arity (formOf form) = omega arith in
     let G = holds-at z H in
-    let l = length-least (M .nodes) in
+    let l = length-least (S .nodes) in
     let t = H .count-is in
-    let few = below-few (formOf form) (M .nodes) roots deep words base (b .count) G p in
-    let most = M .most in
+    let few = below-few (formOf form) (S .nodes) roots deep words base (b .count) G p in
     record {
       room = M .room;
+      some = λ g. omega arith;
+      last = λ i e. last-root (S .nodes) H (base + i) (omega arith);
       base-few = omega arith;
-      free = less (b .count) n most;
+      free = h;
       form-is = M .form-is;
       depth-few = omega arith;
     }
   where
-    less : (n : ℕ) → (n ≡ 1024 → ⊥) → n ≤ 1024 → n < 1024
-    less n h m = omega arith
-
-    holds-at : {d e : ℕ} → d ≡ e → Holds (M .nodes) roots deep words d (b .count) → Holds (M .nodes) roots deep words e (b .count)
+    holds-at : {ns : List Node} {d e : ℕ} → d ≡ e → Holds ns roots deep words d (b .count) → Holds ns roots deep words e (b .count)
     holds-at q H = rw q at H
 
 some-node : {f : ℕ} → Six f → (f ≡ 0 → ⊥) → formOf f ≡ no-node → ⊥
@@ -147,47 +174,47 @@ pub make-none : {roots deep words : List ℕ} {b : Built} {form kind x : ℕ} �
 unfolding make formOf
 make-none {b = b} M z =
     record {
-      become = λ k ns e h. record { held = λ f H. rw z H; full = λ f H. never f (M .not-full) };
-      kept = record { room = M .room; most = M .most };
+      become = λ k ns e h. record { held = λ f H. rw z H; full = λ f H. rw z (let t = H .count-is in omega arith) };
+      kept = record { room = M .room; most = M .most; same = λ e. e };
     }
 
 pub make-full : {roots deep words : List ℕ} {b : Built} {form kind x : ℕ} → Making roots deep words b form → (form ≡ 0 → ⊥)
-    → b .count ≡ 1024
-    → Made roots deep words b form kind x roots deep words (record { depth = b .depth; count = b .count; full = true })
+    → 1024 ≤ b .count
+    → Made roots deep words b form kind x roots deep words (record { depth = b .depth; count = 1025 })
 make-full {b = b} {form = form} {x = x} M n e =
     record {
       become = λ k ns q h. record {
-        held = λ f H. never refl f;
+        held = λ f H. absurd (omega arith);
         full = λ f H.
             let t = H .count-is in
             let m = make-size (formOf form) k x ns h in
             let a = some-node-adds (six form (M .form-is)) n in
             omega arith;
       };
-      kept = record { room = M .room; most = M .most };
+      kept = record { room = M .room; most = omega arith; same = λ f. absurd (omega arith) };
     }
 
 pub make-made : {roots deep words roots₂ deep₂ words₂ : List ℕ} {b : Built} {form kind x m base : ℕ}
     → Making roots deep words b form → (form ≡ 0 → ⊥)
-    → (b .count ≡ 1024 → ⊥) → m ≡ arity (formOf form) → base ≡ b .depth - m
+    → b .count < 1024 → m ≡ arity (formOf form) → base ≡ b .depth - m
     → NodeWritten roots deep words base (b .count) form kind x roots₂ deep₂ words₂
-    → Made roots deep words b form kind x roots₂ deep₂ words₂ (record { depth = base + 1; count = b .count + 1; full = false })
+    → Made roots deep words b form kind x roots₂ deep₂ words₂ (record { depth = base + 1; count = b .count + 1 })
 make-made {roots} {deep} {words} {roots₂} {deep₂} {words₂} {b} {form} {kind} {x} {m} {base} M n h me be N =
     let W = make-writes M h me be in
-    let d = depth-is (M .held) in
-    let p = M .parts in
+    let S = M .some (omega arith) in
+    let d = depth-is (S .held) in
+    let p = S .parts in
     let re = N .roots-are in
     let de = N .depths-are in
     let rl = W .room .roots-room in
     let dl = W .room .deep-room in
     let bf = W .base-few in
-    let free = W .free in
     record {
       become = λ k ns q g. record {
         held = λ f H. rw (re, de)
             (holds-make k x roots deep words words₂ base (b .count) (omega arith) (omega arith) (formOf form) ns (at-base ns g H) g
             (some-node (six form (M .form-is)) n) (put-as k q (N .put)));
-        full = λ f H. never f refl;
+        full = λ f H. absurd (omega arith);
       };
       kept = record {
         room = record {
@@ -196,6 +223,7 @@ make-made {roots} {deep} {words} {roots₂} {deep₂} {words₂} {b} {form} {kin
           words-room = N .put .room ∙ W .room .words-room;
         };
         most = omega arith;
+        same = λ f. omega arith;
       };
     }
   where
@@ -206,3 +234,18 @@ make-made {roots} {deep} {words} {roots₂} {deep₂} {words₂} {b} {form} {kin
     put-as : (k : Kind) → kindNumber k ≡ kind → {p q r : ℕ} → Put words (b .count) kind p q r words₂
         → Put words (b .count) (kindNumber k) p q r words₂
     put-as k q P = rw q P
+
+-- ---- the node of a move
+
+pub own-makes : {roots deep words : List ℕ} {b : Built} {a k form : ℕ} → a ≡ k → moveAt k 8 ≡ form
+    → Making roots deep words b (moveAt a 8) → Making roots deep words b form
+own-makes e f M = rw (e, f) at M
+
+pub own-made : {roots deep words roots₂ deep₂ words₂ : List ℕ} {b r : Built} {a k form kind x : ℕ} → a ≡ k → moveAt k 8 ≡ form
+    → moveAt k 9 ≡ kind → Made roots deep words b form kind x roots₂ deep₂ words₂ r
+    → Made roots deep words b (moveAt a 8) (moveAt a 9) x roots₂ deep₂ words₂ r
+own-made e f k M = rw (e, f, k) M
+
+pub own-less : {roots deep words : List ℕ} {b : Built} {a k kind x : ℕ} → a ≡ k → moveAt k 8 ≡ 0 → Making roots deep words b (moveAt a 8)
+    → Made roots deep words b (moveAt a 8) kind x roots deep words b
+own-less e z M = make-none M (ap (λ (a : ℕ). moveAt a 8) e ∙ z)

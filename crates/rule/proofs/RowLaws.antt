@@ -1,24 +1,26 @@
 -- The sequences of a row, one after the other: `make_row`'s invariant, at its start, with one sequence more, and at its end.
 use mathlib.Core.Path.{_≡_, refl, sym, ap, _∙_}
-use mathlib.Core.Bool.{true, false}
+use mathlib.Core.Bool.{Bool, true, false}
 use mathlib.Core.List.{List}
 use Prim.Native.Nat.{ℕ, suc, _+_, _-_, _<_, _≤_}
 use native.Mathlib.Omega.{arith}
+use lib.Dec.{ltb}
 use lib.ListN.{length}
+use borrow.Author.Tests.{ltb-true, ltb-false}
 use Rattle.rules.specs.Table.{sequence}
 use Rattle.grammar.specs.Written.{Node, kindNumber}
 use Rattle.tokens.specs.Flat.{two, formOf, make, arity, sizes, sequences}
 use Rattle.tokens.proofs.NodeLaws.{adds, make-length, sequences-grown}
 use Rattle.rule.specs.declared.nodes.Built.{Built}
 use Rattle.rule.specs.inside.Nodes.{Holds, Making, Kept, Made, Rowing, RowMade}
-use Rattle.rule.proofs.MakeLaws.{never}
 
 pub record Grouping (roots₀ deep₀ words₀ : List ℕ) (b₀ : Built) (k : ℕ) (roots deep words : List ℕ) (b : Built) (i : ℕ) : Type 0 where
-  pub going : (ns : List Node) → k < length ns → Holds ns roots₀ deep₀ words₀ (b₀ .depth) (b₀ .count)
+  pub going : b .count ≤ 1024 → (ns : List Node) → k < length ns → Holds ns roots₀ deep₀ words₀ (b₀ .depth) (b₀ .count)
       → (ms : List Node) × Holds ms roots deep words (b .depth) (b .count) × (sequences (k - i) ms ≡ sequences k ns)
       × (length ms + i ≡ length ns)
-  pub kept : Kept roots deep words b
-  pub not-full : b .full ≡ false
+  pub crowd : 1024 < b .count → (ns : List Node) → k < length ns → Holds ns roots₀ deep₀ words₀ (b₀ .depth) (b₀ .count)
+      → 1024 < sizes (sequences k ns)
+  pub kept : Kept roots deep words b₀ b
   pub at-most : i ≤ k
 
 -- one sequence more
@@ -38,78 +40,65 @@ module _ {roots₀ deep₀ words₀ : List ℕ} {b₀ : Built} {k : ℕ} where
   grouping-starts R =
       let z : k - 0 ≡ k = omega arith in
       record {
-        going = λ ns h H. (ns, H, rw z, omega arith);
-        kept = record { room = R .room; most = R .most };
-        not-full = R .not-full;
+        going = λ h ns p H. (ns, H, rw z, omega arith);
+        crowd = λ h ns p H. let t = H .count-is in let g = sequences-grown k ns p .size-most in omega arith;
+        kept = record { room = R .room; most = R .most; same = λ e. e };
         at-most = omega arith;
       }
 
-  pub grouping-makes : {roots deep words : List ℕ} {b : Built} {i : ℕ} → Rowing roots₀ deep₀ words₀ b₀ k
-      → Grouping roots₀ deep₀ words₀ b₀ k roots deep words b i → i < k → Making roots deep words b 3
-  unfolding formOf arity
-  grouping-makes R G h =
-      let g = G .going (R .nodes) (R .parts) (R .held) in
-      let p = R .parts in
-      let l = g .3 in
-      record {
-        room = G .kept .room;
-        nodes = g .0;
-        held = g .1;
-        parts = omega arith;
-        most = G .kept .most;
-        form-is = omega arith;
-        not-full = G .not-full;
-      }
+  module _ {roots deep words : List ℕ} {b : Built} {i : ℕ} (G : Grouping roots₀ deep₀ words₀ b₀ k roots deep words b i) where
+    pub grouping-makes : Rowing roots₀ deep₀ words₀ b₀ k → i < k → Making roots deep words b 3
+    unfolding formOf arity
+    grouping-makes R h =
+        record {
+          room = G .kept .room;
+          most = G .kept .most;
+          form-is = omega arith;
+          some = λ f.
+              let S = R .some (G .kept .same f) in
+              let p = S .parts in
+              let g = G .going f (S .nodes) (omega arith) (S .held) in
+              let l = g .3 in
+              record { nodes = g .0; held = g .1; parts = omega arith };
+        }
 
-  pub grouping-on : {roots deep words roots₂ deep₂ words₂ : List ℕ} {b r : Built} {i : ℕ}
-      → Grouping roots₀ deep₀ words₀ b₀ k roots deep words b i
-      → i < k → Made roots deep words b 3 34 0 roots₂ deep₂ words₂ r → r .full ≡ false
-      → Grouping roots₀ deep₀ words₀ b₀ k roots₂ deep₂ words₂ r (i + 1)
-  unfolding kindNumber formOf arity
-  grouping-on {i = i} G h M f =
-      record {
-        going = λ ns p H.
-            let g = G .going ns p H in
-            let ms = g .0 in
-            let l = g .3 in
-            let o = grouped k i ms h (omega arith) in
-            (make (formOf 3) sequence 0 ms, M .become sequence ms refl (omega arith) .held f (g .1), sym (o .0) ∙ g .2, o .1 ∙ l);
-        kept = M .kept;
-        not-full = f;
-        at-most = omega arith;
-      }
-
-  pub grouping-full : {roots deep words roots₂ deep₂ words₂ : List ℕ} {b r : Built} {i : ℕ}
-      → Grouping roots₀ deep₀ words₀ b₀ k roots deep words b i
-      → i < k → Made roots deep words b 3 34 0 roots₂ deep₂ words₂ r → r .full ≡ true
-      → RowMade roots₀ deep₀ words₀ b₀ k roots₂ deep₂ words₂ r
-  unfolding kindNumber formOf arity
-  grouping-full {i = i} G h M f =
-      record {
-        become = λ ns p. record {
-          held = λ e H. never f e;
-          full = λ e H.
-              let g = G .going ns p H in
+    pub grouping-on : {roots₂ deep₂ words₂ : List ℕ} {r : Built} → i < k → Made roots deep words b 3 34 0 roots₂ deep₂ words₂ r
+        → Grouping roots₀ deep₀ words₀ b₀ k roots₂ deep₂ words₂ r (i + 1)
+    unfolding kindNumber formOf arity
+    grouping-on {r = r} h M =
+        record {
+          going = λ f ns p H.
+              let g = G .going (M .kept .same f) ns p H in
               let ms = g .0 in
               let l = g .3 in
               let o = grouped k i ms h (omega arith) in
-              let big = M .become sequence ms refl (omega arith) .full f (g .1) in
-              let grown = o .2 in
-              let same = ap sizes (g .2) in
-              omega arith;
-        };
-        kept = M .kept;
-      }
+              (make (formOf 3) sequence 0 ms, M .become sequence ms refl (omega arith) .held f (g .1), sym (o .0) ∙ g .2, o .1 ∙ l);
+          crowd = λ f ns p H. by f ns p H (ltb 1024 (b .count)) refl;
+          kept = record { room = M .kept .room; most = M .kept .most; same = λ e. G .kept .same (M .kept .same e) };
+          at-most = omega arith;
+        }
+      where
+        by : 1024 < r .count → (ns : List Node) → k < length ns → Holds ns roots₀ deep₀ words₀ (b₀ .depth) (b₀ .count)
+            → (v : Bool) → ltb 1024 (b .count) ≡ v → 1024 < sizes (sequences k ns)
+        by f ns p H true e = G .crowd (ltb-true 1024 (b .count) e) ns p H
+        by f ns p H false e =
+            let g = G .going (ltb-false 1024 (b .count) e) ns p H in
+            let ms = g .0 in
+            let l = g .3 in
+            let o = grouped k i ms h (omega arith) in
+            let big = M .become sequence ms refl (omega arith) .full f (g .1) in
+            let grown = o .2 in
+            let same = ap sizes (g .2) in
+            omega arith
 
-  pub grouping-ends : {roots deep words : List ℕ} {b : Built} {i : ℕ} → Grouping roots₀ deep₀ words₀ b₀ k roots deep words b i → k ≤ i
-      → RowMade roots₀ deep₀ words₀ b₀ k roots deep words b
-  unfolding sequences
-  grouping-ends {i = i} G h =
-      let z : k - i ≡ 0 = omega arith in
-      record {
-        become = λ ns p. record {
-          held = λ e H. let g = G .going ns p H in let q = rw z at (g .2) in rw (← q) (g .1);
-          full = λ e H. never e (G .not-full);
-        };
-        kept = G .kept;
-      }
+    pub grouping-ends : k ≤ i → RowMade roots₀ deep₀ words₀ b₀ k roots deep words b
+    unfolding sequences
+    grouping-ends h =
+        let z : k - i ≡ 0 = omega arith in
+        record {
+          become = λ ns p. record {
+            held = λ e H. let g = G .going e ns p H in let q = rw z at (g .2) in rw (← q) (g .1);
+            full = λ e H. G .crowd e ns p H;
+          };
+          kept = G .kept;
+        }

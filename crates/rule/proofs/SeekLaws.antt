@@ -203,7 +203,7 @@ pub data Counting (a : ℕ) : List Frame → Type 0 where
   no-count : {gs : List Frame} → moveAt a 10 ≡ 0 → Counting a gs
   in-row : {x : Figure} {gs : List Frame} → moveAt a 0 ≡ 0 → Counting a (frame 19 x ∷ gs)
 
-no-act : (f k : ℕ) → 32 ≤ f → act f k ≡ 0
+pub no-act : (f k : ℕ) → 32 ≤ f → act f k ≡ 0
 unfolding act acts
 no-act f k h = past-end acts (32 * f + k) (omega arith)
 

@@ -5,9 +5,7 @@ mod turns;
 use nodes::Built;
 use rules::Refusal;
 use rules::Text;
-use tokens::moves;
 use tokens::moves::Standing;
-use tokens::spelling;
 use tokens::tables;
 ghost use mathlib.Core.Path.{_≡_};
 ghost use Prim.Native.Nat.{_≤_};
@@ -16,9 +14,9 @@ ghost use lib.Seq.{sets};
 ghost use Rattle.rules.specs.Answer.{ended};
 ghost use Rattle.rules.specs.Refusal.{refusal};
 ghost use Rattle.grammar.specs.Typed.{told};
-ghost use Rattle.tokens.specs.Arrays.{Acts};
+ghost use Rattle.grammar.specs.Spelling.{isBlank};
 ghost use Rattle.rule.specs.ReadingRule.{readingRule};
-ghost use Rattle.rule.specs.inside.Turns.{AtEnd, Finished, Reached};
+ghost use Rattle.rule.specs.inside.Turns.{Finished, Skipped, Reached};
 
 // What is known at the end of the text: refused, with a number and a place, or a table of `count` nodes (number 0).
 struct Outcome {
@@ -37,34 +35,12 @@ fn refused_at(number: u32, place: usize) -> Outcome
     }
 }
 
-// The text is read: nothing may be left open, and the nodes that are complete are made.
-fn finish(
-    acts: &[u8; 1024],
-    st: &[u8; 1600],
-    args: &[u32; 1600],
-    words: &mut [u32; 4096],
-    roots: &mut [u16; 1028],
-    deep: &mut [u16; 1028],
-    s: Standing,
-    b: Built,
-    at: usize,
-) -> Outcome
-    requires { ⌜ Acts (now acts) × AtEnd (now st) (now args) (now roots) (now deep) (now words) s b at ⌝ }
-    ensures { λ r. ⌜ Finished (now (st .entry)) (now (args .entry)) (now (roots .entry)) (now (deep .entry)) (now (words .entry))
-        s b at (now (words .exit)) (r .number) (r .place) (r .count) ⌝ }
+// The text is read: its nodes may be too many, or too deep.
+fn finish(deep: &[u16; 1028], b: Built) -> Outcome
+    requires { ⌜ length (now deep) ≡ 1028 ⌝ }
+    ensures { λ r. ⌜ Finished (now (deep .entry)) b (r .number) (r .place) (r .count) ⌝ }
 {
-    if s.mode != 6 {
-        return refused_at(17, at);
-    }
-    let p = moves::locate(acts, st, s, 29);
-    if p.top != 0 {
-        return refused_at(17, at);
-    }
-    if b.full {
-        return refused_at(1, 0);
-    }
-    let c = nodes::close_down(&mut *words, &mut *roots, &mut *deep, st, args, b, s.top, 0);
-    if c.full {
+    if 1024 < b.count {
         return refused_at(1, 0);
     }
     if 256 < deep[0] {
@@ -73,17 +49,33 @@ fn finish(
     Outcome {
         number: 0,
         place: 0,
-        count: c.count,
+        count: b.count,
     }
 }
 
-// The text read into words of the reader's own.
+fn is_blank(b: u8) -> bool
+    ensures { λ r. ⌜ r ≡ isBlank b ⌝ }
+{
+    (b == 32) | (b == 10)
+}
+
+// The first place from `from` on where no blank stands.
+fn skip_blanks(text: &[u8], from: usize) -> usize
+    ensures { λ r. ⌜ Skipped (now (text .entry)) from r ⌝ }
+{
+    let mut at = from;
+    while at < text.len() && is_blank(text[at]) {
+        at += 1;
+    }
+    at
+}
+
+// The text read into words of the reader's own. The end of the text is a turn like its tokens, so that frames are closed in one place.
 fn read(text: &[u8], words: &mut [u32; 4096]) -> Outcome
     requires { ⌜ length (now words) ≡ 4096 ⌝ }
     ensures { λ r. ⌜ Reached (now (text .entry)) (now (words .exit)) (r .number) (r .place) (r .count) ⌝ }
 {
     let acts = tables::ACTS;
-    let moves = tables::MOVES;
     let spellings = tables::SPELLINGS;
     let classes = tables::CLASSES;
     let numbers = tables::NUMBERS;
@@ -96,53 +88,32 @@ fn read(text: &[u8], words: &mut [u32; 4096]) -> Outcome
         left: 256,
         top: 1,
     };
-    let mut b = Built {
-        depth: 0,
-        count: 0,
-        full: false,
-    };
-    let mut at: usize = 0;
-    while at < text.len() {
-        let class = spelling::class_of(&classes, text[at]);
-        if class == 30 {
-            at += 1;
-        } else {
-            let t = turns::advance(
-                text,
-                at,
-                class,
-                &acts,
-                &moves,
-                &spellings,
-                &classes,
-                &numbers,
-                &mut st,
-                &mut args,
-                &mut *words,
-                &mut roots,
-                &mut deep,
-                s,
-                b,
-            );
-            if t.stuck {
-                return refused_at(17, t.end);
-            }
-            s = t.s;
-            b = t.b;
-            at = t.end;
+    let mut b = Built { depth: 0, count: 0 };
+    let mut at = skip_blanks(text, 0);
+    while at <= text.len() {
+        let t = turns::advance(
+            text,
+            at,
+            &acts,
+            &spellings,
+            &classes,
+            &numbers,
+            &mut st,
+            &mut args,
+            &mut *words,
+            &mut roots,
+            &mut deep,
+            s,
+            b,
+        );
+        if t.stuck {
+            return refused_at(17, t.end);
         }
+        s = t.s;
+        b = t.b;
+        at = skip_blanks(text, t.end);
     }
-    finish(
-        &acts,
-        &st,
-        &args,
-        &mut *words,
-        &mut roots,
-        &mut deep,
-        s,
-        b,
-        at,
-    )
+    finish(&deep, b)
 }
 
 fn copy(words: &[u32; 4096], n: usize, room: &mut [u32])

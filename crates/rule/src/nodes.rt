@@ -1,16 +1,16 @@
 // Nodes written, children first. The nodes that no node names yet are on a stack: their numbers in one array, their depths in another.
 ghost use mathlib.Core.Path.{_≡_};
-ghost use Prim.Native.Nat.{_<_, _≤_, max};
+ghost use mathlib.Core.Bool.{true, cond};
+ghost use Prim.Native.Nat.{_-_, _<_, _≤_, max};
 ghost use lib.ListN.{length};
 ghost use Rattle.tokens.specs.Flat.{formOf, arity};
 ghost use Rattle.rule.specs.inside.Nodes.{first, second, third, below, Put, Writing, NodeWritten, Making, Made, Rowing};
-ghost use Rattle.rule.specs.inside.Nodes.{RowMade, closingForm, closingKind, Closing, Closed, Descending, Descended};
+ghost use Rattle.rule.specs.inside.Nodes.{RowMade, kindOfTwo, Closing, Closed, Descending, Descended};
 
-// How many nodes no node names yet, and how many there are; or there are too many.
+// How many nodes no node names yet, and how many there are: 1,025 says that there are too many.
 pub(crate) struct Built {
     pub depth: usize,
     pub count: usize,
-    pub full: bool,
 }
 
 fn arity_of(form: u8) -> usize
@@ -84,31 +84,44 @@ fn put(words: &mut [u32; 4096], count: usize, a: u32, b: u32, c: u32, d: u32)
     words[i + 3] = d;
 }
 
-// A node over those from `base` on.
+// The number of a node that a node is made of. The last one is the last that was written: its number is not read back from the stack, where
+// it has only just been stored.
+fn root(last: bool, count: usize, stored: u16) -> u16
+    requires { ⌜ (last ≡ true → 0 < count) × (count ≤ 1024) ⌝ }
+    ensures { λ r. ⌜ r ≡ cond last (count - 1) stored ⌝ }
+{
+    if last { (count - 1) as u16 } else { stored }
+}
+
+// A node over those from `base` on, `n` of them.
 fn write_node(
     words: &mut [u32; 4096],
     roots: &mut [u16; 1028],
     deep: &mut [u16; 1028],
     base: usize,
+    n: usize,
     count: usize,
     form: u8,
     kind: u32,
     x: u32,
 )
-    requires { ⌜ Writing (now roots) (now deep) (now words) base count form ⌝ }
+    requires { ⌜ Writing (now roots) (now deep) (now words) base n count form ⌝ }
     ensures { λ _. ⌜ NodeWritten (now (roots .entry)) (now (deep .entry)) (now (words .entry)) base count form kind x
         (now (roots .exit)) (now (deep .exit)) (now (words .exit)) ⌝ }
 {
-    let p = first_word(form, x, roots[base]);
-    let q = second_word(form, roots[base], roots[base + 1]);
-    let r = third_word(form, roots[base + 2]);
+    let a = root(n == 1, count, roots[base]);
+    let b = root(n == 2, count, roots[base + 1]);
+    let c = root(n == 3, count, roots[base + 2]);
+    let p = first_word(form, x, a);
+    let q = second_word(form, a, b);
+    let r = third_word(form, c);
     put(&mut *words, count, kind, p, q, r);
     let d = depth_below(form, deep[base], deep[base + 1], deep[base + 2]);
     roots[base] = count as u16;
     deep[base] = d + 1;
 }
 
-// A node is made of the last ones, if it is not the 1,025th; of form 0 there is none.
+// A node is made of the last ones, if it is not the 1,025th; of form 0 there is none. Callers give a form that is known: then little is left of it.
 pub(crate) fn make(
     words: &mut [u32; 4096],
     roots: &mut [u16; 1028],
@@ -126,19 +139,20 @@ pub(crate) fn make(
         return b;
     }
     let count = b.count;
-    if count == 1024 {
+    if 1024 <= count {
         return Built {
             depth: b.depth,
-            count,
-            full: true,
+            count: 1025,
         };
     }
-    let base = b.depth - arity_of(form);
+    let n = arity_of(form);
+    let base = b.depth - n;
     write_node(
         &mut *words,
         &mut *roots,
         &mut *deep,
         base,
+        n,
         count,
         form,
         kind,
@@ -147,7 +161,6 @@ pub(crate) fn make(
     Built {
         depth: base + 1,
         count: count + 1,
-        full: false,
     }
 }
 
@@ -167,33 +180,16 @@ fn make_row(
     let mut i: u32 = 0;
     while i < k {
         b = make(&mut *words, &mut *roots, &mut *deep, b, 3, 34, 0);
-        if b.full {
-            return b;
-        }
         i += 1;
     }
     b
 }
 
-fn closing_form(frame: u8) -> u8
-    ensures { λ r. ⌜ r ≡ closingForm frame ⌝ }
+// The kind of a node made of two: that of an `and`, or the frame's own.
+fn kind_of_two(frame: u8, x: u32) -> u32
+    ensures { λ r. ⌜ r ≡ kindOfTwo frame x ⌝ }
 {
-    if frame == 25 {
-        return 2;
-    }
-    if frame == 28 { 5 } else { 3 }
-}
-
-fn closing_kind(frame: u8, x: u32) -> u32
-    ensures { λ r. ⌜ r ≡ closingKind frame x ⌝ }
-{
-    if frame == 15 {
-        return 22;
-    }
-    if frame == 25 {
-        return 21;
-    }
-    if frame == 28 { 33 } else { x }
+    if frame == 15 { 22 } else { x }
 }
 
 // What a frame that is closed makes of the phrase at hand.
@@ -215,9 +211,14 @@ fn close(
     if frame == 19 {
         return make_row(&mut *words, &mut *roots, &mut *deep, b, x);
     }
-    let form = closing_form(frame);
-    let kind = closing_kind(frame, x);
-    make(&mut *words, &mut *roots, &mut *deep, b, form, kind, x)
+    if frame == 25 {
+        return make(&mut *words, &mut *roots, &mut *deep, b, 2, 21, x);
+    }
+    if frame == 28 {
+        return make(&mut *words, &mut *roots, &mut *deep, b, 5, 33, x);
+    }
+    let kind = kind_of_two(frame, x);
+    make(&mut *words, &mut *roots, &mut *deep, b, 3, kind, x)
 }
 
 // The frames from `top` down to `to` are closed.
@@ -240,9 +241,6 @@ pub(crate) fn close_down(
     while to < i {
         i -= 1;
         b = close(&mut *words, &mut *roots, &mut *deep, b, st[i], args[i]);
-        if b.full {
-            return b;
-        }
     }
     b
 }

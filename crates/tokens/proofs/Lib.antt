@@ -3,6 +3,7 @@ pub mod Steps
 pub mod ShapeLaws
 pub mod NodeLaws
 pub mod ArrayLaws
+pub mod MoveLaws
 pub mod Halts
 pub mod Entries
 pub mod Common
@@ -12,5 +13,6 @@ pub mod FixedScan
 pub mod DigitScan
 pub mod Results
 pub mod CodeLaws
+pub mod SpelledLaws
 pub mod QuickLaws
 pub mod TakenLaws

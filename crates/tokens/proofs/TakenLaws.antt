@@ -1,26 +1,29 @@
 -- The token that is taken: its number, and its move.
 use mathlib.Core.Path.{_≡_, refl, sym, ap, _∙_}
-use mathlib.Core.Bool.{true, false, not, cond}
+use mathlib.Core.Bool.{Bool, true, false, not, cond}
 use mathlib.Core.List.{List}
-use Prim.Native.Nat.{ℕ, _<_, _≤_}
+use Prim.Native.Nat.{ℕ, zero, suc, _-_, _<_, _≤_}
 use native.Mathlib.Omega.{arith}
 use lib.Dec.{eqb, ltb}
 use lib.ListN.{getD}
-use borrow.Author.Tests.{ne-eqb, lt-ltb, le-ltb, not-true}
+use borrow.Author.Tests.{ne-eqb, ltb-true, ltb-false, lt-ltb, le-ltb, not-true}
 use Rattle.grammar.specs.Token.{Token, rank}
 use Rattle.grammar.specs.Written.{kindNumber, operatorNumber, relationNumber}
 use Rattle.tokens.specs.declared.moves.Standing.{Standing}
-use Rattle.tokens.specs.Tables.{numbers}
-use Rattle.tokens.specs.Flat.{figureNumber}
+use Rattle.tokens.specs.Tables.{acts, numbers}
+use Rattle.tokens.specs.Flat.{act, rowOf, figureNumber}
 use Rattle.tokens.specs.Shape.{may}
 use Rattle.tokens.specs.Stand.{kindOf, signKind, relationKind, truthKind, figure}
 use Rattle.tokens.specs.Arrays.{standing, Located, Numbers}
 use Rattle.tokens.proofs.Steps.{tokens}
 use Rattle.tokens.specs.declared.Found.{Found}
 use Rattle.tokens.specs.Scan.{carried, Scanned}
-use Rattle.tokens.specs.Quick.{Quick}
+use Rattle.tokens.specs.Promise.{WordNext}
+use Rattle.tokens.specs.Quick.{Held, Quick}
 use Rattle.tokens.specs.Taken.{NumberIs, Taken}
+use Rattle.tokens.proofs.ArrayLaws.{located-row}
 use Rattle.tokens.proofs.CodeLaws.{may-is}
+use Rattle.tokens.proofs.QuickLaws.{quick-parted}
 
 -- ---- its number
 
@@ -86,3 +89,28 @@ module _ {text : List ℕ} {at : ℕ} {st : List ℕ} {s : Standing} {r : Found}
       let m : may (standing st s) (r .kind) ≡ true = rw (← k) (b .allowed) in
       let z : eqb (r .act) 0 ≡ false = not-true _ (may-is st s _ _ _ l ∙ m) in
       record { token = λ y. (t .0, k, n .is (t .0) k (t .2), b, l, z); stuck = λ y. absurd (omega arith) }
+
+-- ---- a number or a variable where a factor is wanted
+
+-- the moves 15 and 16, also where no level is left
+operand-act : (kind left : ℕ) → 27 ≤ kind → kind < 29 → kind - 12 ≡ act (rowOf 4 left) kind
+unfolding act acts rowOf
+operand-act kind left h l = by left (ltb kind 28) refl
+  where
+    by : (n : ℕ) (b : Bool) → ltb kind 28 ≡ b → kind - 12 ≡ act (rowOf 4 n) kind
+    by zero true e = let q : kind ≡ 27 = let z = ltb-true kind 28 e in omega arith in rw q
+    by (suc n) true e = let q : kind ≡ 27 = let z = ltb-true kind 28 e in omega arith in rw q
+    by zero false e = let q : kind ≡ 28 = let z = ltb-false kind 28 e in omega arith in rw q
+    by (suc n) false e = let q : kind ≡ 28 = let z = ltb-false kind 28 e in omega arith in rw q
+
+module _ {text : List ℕ} {at : ℕ} {st : List ℕ} {s : Standing} {r : Found} {kind value end : ℕ} where
+  pub operand-taken : s .mode ≡ 4 → Held text at kind value end → 27 ≤ kind → kind < 29
+      → {w : Bool} → WordNext text end w → w ≡ false → value < 4294967296
+      → r .kind ≡ kind → r .number ≡ value → r .end ≡ end → r .act ≡ kind - 12 → r .top ≡ s .top
+      → Taken text at st s r
+  operand-taken m u g h w e v k n f a t =
+      let z : rowOf 4 (s .left) ≡ rowOf (s .mode) (s .left) = ap (λ (i : ℕ). rowOf i (s .left)) (sym m) in
+      let l : Located st s kind (kind - 12) (s .top) =
+      located-row st s kind (kind - 12) (rowOf 4 (s .left)) (λ q. omega arith) z (operand-act kind (s .left) g h) in
+      taken-quick {value = value} (rw (k, f) (quick-parted u w e)) (omega arith) (rw (k, n) (number-carried g v)) (rw (k, a, t) l)
+      (λ q. omega arith)

@@ -1,12 +1,12 @@
 -- What the functions on the arrays of frames ask and promise: the numbers of the frames in one array, their figures in another.
 use mathlib.Core.Path.{_≡_}
 use Prim.Native.Nat.{ℕ, zero, suc, _+_, _%_, _≤_}
-use mathlib.Core.List.{List, [], _∷_}
+use mathlib.Core.List.{List, [], _∷_, _++_}
 use lib.ListN.{length, getD}
 use Rattle.tokens.specs.declared.moves.Place.{Place}
 use Rattle.tokens.specs.declared.moves.Standing.{Standing}
-use Rattle.tokens.specs.Tables.{acts, moves, spellings, classes, numbers}
-use Rattle.tokens.specs.Flat.{moveAt, closed, opened}
+use Rattle.tokens.specs.Tables.{acts, spellings, classes, numbers}
+use Rattle.tokens.specs.Flat.{act, rowOf, moveAt, closed, opened}
 use Rattle.tokens.specs.Shape.{Shape, shape, found, seek, locate, enter}
 
 -- the first `top` numbers of an array, the last first
@@ -18,9 +18,6 @@ stack l (suc i) = getD l i 0 ∷ stack l i
 pub record Acts (l : List ℕ) : Type 0 where
   pub is : l ≡ acts
 
-pub record Moves (l : List ℕ) : Type 0 where
-  pub is : l ≡ moves
-
 pub record Spellings (l : List ℕ) : Type 0 where
   pub is : l ≡ spellings
 
@@ -29,6 +26,10 @@ pub record Classes (l : List ℕ) : Type 0 where
 
 pub record Numbers (l : List ℕ) : Type 0 where
   pub is : l ≡ numbers
+
+-- r moves as the row of a mode
+pub record RowIs (mode left r : ℕ) : Type 0 where
+  pub is : (kind : ℕ) → act r kind ≡ act (rowOf mode left) kind
 
 pub record Sought (st : List ℕ) (top kind a t : ℕ) : Type 0 where
   pub is : seek kind (stack st top) ≡ found a (stack st t)
@@ -62,14 +63,18 @@ unfoldable pub numberAt : ℕ → ℕ → ℕ
 numberAt x zero = x
 numberAt x (suc j) = 0
 
--- four numbers are stored from `base` on
-pub record Four (l : List ℕ) (base : ℕ) (f : ℕ → ℕ) (after : List ℕ) : Type 0 where
-  pub is : (c : ℕ) → c ≤ 4 → stack after (base + c) ≡ opened f c (stack l base)
-  pub room : length after ≡ length l
-
 pub record Counted (l : List ℕ) (top n : ℕ) (after : List ℕ) : Type 0 where
   pub is : stack after top ≡ countedNumber n (stack l top)
   pub room : length after ≡ length l
+
+-- the frames fs are opened over the first `base`, the first of them with the number x
+pub record Opened (st ar : List ℕ) (base : ℕ) (fs : List ℕ) (x mode left : ℕ) (st₂ ar₂ : List ℕ) (r : Standing) : Type 0 where
+  pub mode-is : r .mode ≡ mode
+  pub left-is : r .left ≡ left
+  pub tags-are : stack st₂ (r .top) ≡ fs ++ stack st base
+  pub figures-are : stack ar₂ (r .top) ≡ opened (numberAt x) (length fs) (stack ar base)
+  pub top-is : r .top ≡ base + length fs
+  pub room : (length st₂ ≡ length st) × (length ar₂ ≡ length ar)
 
 unfoldable pub entered : ℕ → ℕ → List ℕ → List ℕ
 entered a x ks = opened (numberAt (takenNumber (moveAt a 11) x)) (moveAt a 1) (countedNumber (moveAt a 10) (closed (moveAt a 0) ks))

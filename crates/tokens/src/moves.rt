@@ -1,48 +1,41 @@
-// The machine that reads tokens, on numbers: the frames are in arrays, the moves in tables. The tables are lent, so that they are laid down
-// once for a whole text and not at every look.
+// The machine that reads tokens, on numbers: the frames are in arrays. Which move is made stands in a table that is lent, so that it is laid
+// down once for a whole text; what a move does stands in the code, for a number in the code need not be waited for.
 ghost use mathlib.Core.Path.{_≡_};
-ghost use Prim.Native.Nat.{suc, _+_, _%_, _≤_};
+ghost use mathlib.Core.List.{[], _∷_};
+ghost use Prim.Native.Nat.{suc, _%_, _≤_};
 ghost use lib.ListN.{length};
-ghost use Rattle.tokens.specs.Flat.{act, moveAt, level, rowOf};
-ghost use Rattle.tokens.specs.Arrays.{Acts, Moves, Sought, Located, Lower, Four, Counted, takenNumber, numberAt, Entered};
+ghost use Rattle.tokens.specs.Flat.{act, level};
+ghost use Rattle.tokens.specs.Arrays.{Acts, RowIs, Sought, Located, Lower, Counted, Opened, Entered};
 
 // Where a move is made, and which: 0 none.
 pub struct Place {
-    pub act: u8,
+    pub act: u32,
     pub top: usize,
 }
 
 // A shape whose frames are the first `top` numbers of an array.
 pub struct Standing {
-    pub mode: u8,
-    pub left: u16,
+    pub mode: u32,
+    pub left: u32,
     pub top: usize,
 }
 
-fn act_of(acts: &[u8; 1024], row: u16, kind: u8) -> u8
+fn wide(x: u8) -> u32
+    ensures { λ r. ⌜ r ≡ x ⌝ }
+{
+    x as u32
+}
+
+fn act_of(acts: &[u8; 1024], row: u32, kind: u32) -> u32
     requires { ⌜ Acts (now acts) ⌝ }
     ensures { λ r. ⌜ r ≡ act row kind ⌝ }
 {
     let i = 32 * (row as usize) + (kind as usize);
-    if i < 1024 { acts[i] } else { 0 }
-}
-
-pub fn move_at(moves: &[u8; 544], a: u8, i: u8) -> u8
-    requires { ⌜ Moves (now moves) ⌝ }
-    ensures { λ r. ⌜ r ≡ moveAt a i ⌝ }
-{
-    let k = 16 * (a as usize) + (i as usize);
-    if k < 544 { moves[k] } else { 0 }
-}
-
-fn wide(x: u8) -> u16
-    ensures { λ r. ⌜ r ≡ x ⌝ }
-{
-    x as u16
+    if i < 1024 { wide(acts[i]) } else { 0 }
 }
 
 // Frames are passed until one moves.
-fn seek(acts: &[u8; 1024], st: &[u8; 1600], top: usize, kind: u8) -> Place
+fn seek(acts: &[u8; 1024], st: &[u8; 1600], top: usize, kind: u32) -> Place
     requires { ⌜ Acts (now acts) × (top ≤ 1600) ⌝ }
     ensures { λ r. ⌜ Sought (now (st .entry)) top kind (r .act) (r .top) ⌝ }
 {
@@ -57,18 +50,19 @@ fn seek(acts: &[u8; 1024], st: &[u8; 1600], top: usize, kind: u8) -> Place
     Place { act: 0, top: 0 }
 }
 
-fn row_of(mode: u8, left: u16) -> u16
-    ensures { λ r. ⌜ r ≡ rowOf mode left ⌝ }
+// A mode past the table has no row, with levels left or without, so the sum is made of small numbers only.
+fn row_of(mode: u32, left: u32) -> u32
+    ensures { λ r. ⌜ RowIs mode left r ⌝ }
 {
-    if left == 0 {
-        (mode as u16) + 7
+    if (left == 0) & (mode < 1024) {
+        mode + 7
     } else {
-        mode as u16
+        mode
     }
 }
 
 // The move of a shape on a kind of token.
-pub fn locate(acts: &[u8; 1024], st: &[u8; 1600], s: Standing, kind: u8) -> Place
+pub fn locate(acts: &[u8; 1024], st: &[u8; 1600], s: Standing, kind: u32) -> Place
     requires { ⌜ Acts (now acts) × (s .top ≤ 1600) ⌝ }
     ensures { λ r. ⌜ Located (now (st .entry)) s kind (r .act) (r .top) ⌝ }
 {
@@ -84,32 +78,18 @@ pub fn locate(acts: &[u8; 1024], st: &[u8; 1600], s: Standing, kind: u8) -> Plac
 
 // ---- a move is made
 
-fn lower(top: usize, n: u8) -> usize
-    ensures { λ r. ⌜ Lower top n r ⌝ }
+// The frame on top is closed.
+pub fn lower(top: usize) -> usize
+    ensures { λ r. ⌜ Lower top 1 r ⌝ }
 {
-    if n == 0 {
-        return top;
-    }
-    if top == 0 {
-        return 0;
-    }
-    top - 1
+    if top == 0 { 0 } else { top - 1 }
 }
 
-fn new_level(left: u16, change: u8) -> u16
-    requires { ⌜ left ≤ 256 ⌝ }
-    ensures { λ r. ⌜ r ≡ level change left ⌝ }
+// One level is taken.
+pub fn down(left: u32) -> u32
+    ensures { λ r. ⌜ r ≡ level 0 left ⌝ }
 {
-    if change == 1 {
-        return left;
-    }
-    if change != 0 {
-        return left + 1;
-    }
-    if left == 0 {
-        return 0;
-    }
-    left - 1
+    if left == 0 { 0 } else { left - 1 }
 }
 
 fn one_more(k: u32) -> u32
@@ -119,67 +99,66 @@ fn one_more(k: u32) -> u32
 }
 
 // One statement more in the row that is open.
-fn count_statement(args: &mut [u32; 1600], top: usize, n: u8)
+pub fn count_statement(args: &mut [u32; 1600], top: usize)
     requires { ⌜ (top ≤ 1543) × (length (now args) ≡ 1600) ⌝ }
-    ensures { λ _. ⌜ Counted (now (args .entry)) top n (now (args .exit)) ⌝ }
+    ensures { λ _. ⌜ Counted (now (args .entry)) top 1 (now (args .exit)) ⌝ }
 {
-    if n == 0 {
-        return;
-    }
     if top == 0 {
         return;
     }
     args[top - 1] = one_more(args[top - 1]);
 }
 
-// All four are stored, however many are opened: what is above the top plays no part.
-fn open_frames(moves: &[u8; 544], st: &mut [u8; 1600], base: usize, a: u8)
-    requires { ⌜ Moves (now moves) × (base ≤ 1543) × (length (now st) ≡ 1600) ⌝ }
-    ensures { λ _. ⌜ Four (now (st .entry)) base (λ j. moveAt a (2 + j)) (now (st .exit)) ⌝ }
+// No frame is opened.
+pub fn stay(mode: u32, left: u32, top: usize) -> Standing
+    ensures { λ r. ⌜ (r .mode ≡ mode) × (r .left ≡ left) × (r .top ≡ top) ⌝ }
 {
-    st[base] = move_at(moves, a, 2);
-    st[base + 1] = move_at(moves, a, 3);
-    st[base + 2] = move_at(moves, a, 4);
-    st[base + 3] = move_at(moves, a, 5);
+    Standing { mode, left, top }
 }
 
-fn open_figures(args: &mut [u32; 1600], base: usize, x: u32)
-    requires { ⌜ (base ≤ 1543) × (length (now args) ≡ 1600) ⌝ }
-    ensures { λ _. ⌜ Four (now (args .entry)) base (numberAt x) (now (args .exit)) ⌝ }
-{
-    args[base] = x;
-    args[base + 1] = 0;
-    args[base + 2] = 0;
-    args[base + 3] = 0;
-}
-
-fn number_taken(n: u8, x: u32) -> u32
-    ensures { λ r. ⌜ r ≡ takenNumber n x ⌝ }
-{
-    if n == 0 { 0 } else { x }
-}
-
-// A move is made, with the number x of the token.
-pub fn enter(
-    moves: &[u8; 544],
+// The frame f is opened, with the number x.
+pub fn one(
     st: &mut [u8; 1600],
     args: &mut [u32; 1600],
-    left: u16,
-    p: Place,
+    base: usize,
+    f: u8,
     x: u32,
+    mode: u32,
+    left: u32,
 ) -> Standing
-    requires { ⌜ Moves (now moves) × (left ≤ 256) × (p .top ≤ 1543) × (length (now st) ≡ 1600) × (length (now args) ≡ 1600) ⌝ }
-    ensures { λ r. ⌜ Entered (now (st .entry)) (now (args .entry)) left p x (now (st .exit)) (now (args .exit)) r ⌝ }
+    requires { ⌜ (base ≤ 1598) × (length (now st) ≡ 1600) × (length (now args) ≡ 1600) ⌝ }
+    ensures { λ r. ⌜ Opened (now (st .entry)) (now (args .entry)) base (f ∷ []) x mode left (now (st .exit)) (now (args .exit)) r ⌝ }
 {
-    let a = p.act;
-    let base = lower(p.top, move_at(moves, a, 0));
-    count_statement(&mut *args, base, move_at(moves, a, 10));
-    open_frames(moves, &mut *st, base, a);
-    open_figures(&mut *args, base, number_taken(move_at(moves, a, 11), x));
-    let level = new_level(left, move_at(moves, a, 7));
+    st[base] = f;
+    args[base] = x;
     Standing {
-        mode: move_at(moves, a, 6),
-        left: level,
-        top: base + (move_at(moves, a, 1) as usize),
+        mode,
+        left,
+        top: base + 1,
+    }
+}
+
+// The frame f is opened, with the number x, and in it the frame g.
+pub fn two(
+    st: &mut [u8; 1600],
+    args: &mut [u32; 1600],
+    base: usize,
+    f: u8,
+    x: u32,
+    g: u8,
+    mode: u32,
+    left: u32,
+) -> Standing
+    requires { ⌜ (base ≤ 1598) × (length (now st) ≡ 1600) × (length (now args) ≡ 1600) ⌝ }
+    ensures { λ r. ⌜ Opened (now (st .entry)) (now (args .entry)) base (g ∷ f ∷ []) x mode left (now (st .exit)) (now (args .exit)) r ⌝ }
+{
+    st[base] = f;
+    args[base] = x;
+    st[base + 1] = g;
+    args[base + 1] = 0;
+    Standing {
+        mode,
+        left,
+        top: base + 2,
     }
 }

@@ -15,10 +15,10 @@ ghost use Rattle.tokens.specs.Promise.{Turn, Considered, Furthermost, Di
 // How far a fixed token is there, and which is there whole (27: none).
 pub struct Furthest {
     pub best: usize,
-    pub found: u8,
+    pub found: u32,
 }
 
-fn allowed(acts: &[u8; 1024], st: &[u8; 1600], s: Standing, kind: u8) -> bool
+fn allowed(acts: &[u8; 1024], st: &[u8; 1600], s: Standing, kind: u32) -> bool
     requires { ⌜ Acts (now acts) × (s .top ≤ 1600) ⌝ }
     ensures { λ r. ⌜ r ≡ may (standing (now (st .entry)) s) kind ⌝ }
 {
@@ -29,7 +29,7 @@ fn allowed(acts: &[u8; 1024], st: &[u8; 1600], s: Standing, kind: u8) -> bool
 // ---- fixed tokens
 
 // How far the token k is there.
-fn common_length(text: &[u8], at: usize, spellings: &[u8; 216], k: u8) -> usize
+fn common_length(text: &[u8], at: usize, spellings: &[u8; 216], k: u32) -> usize
     requires { ⌜ Spellings (now spellings) × (at ≤ length (now text)) × (k < 27) ⌝ }
     ensures { λ r. ⌜ r ≡ common (spelledAt k) (drop at (now (text .entry))) ⌝ }
 {
@@ -56,7 +56,7 @@ fn consider(
     spellings: &[u8; 216],
     st: &[u8; 1600],
     s: Standing,
-    k: u8,
+    k: u32,
     f: Furthest,
 ) -> Furthest
     requires { ⌜ Acts (now acts) × Spellings (now spellings) × Turn (now text) at (now st) s k f ⌝ }
@@ -94,7 +94,7 @@ fn look(
     ensures { λ r. ⌜ Furthermost (now (text .entry)) at (now (st .entry)) s r ⌝ }
 {
     let mut f = Furthest { best: 0, found: 27 };
-    let mut k: u8 = 0;
+    let mut k: u32 = 0;
     while k < 27 {
         f = consider(text, at, acts, spellings, st, s, k, f);
         k += 1;
@@ -102,7 +102,7 @@ fn look(
     f
 }
 
-fn is_word_kind(k: u8) -> bool
+fn is_word_kind(k: u32) -> bool
     ensures { λ r. ⌜ r ≡ isWordKind k ⌝ }
 {
     (k < 10) | (24 < k)

@@ -4,11 +4,11 @@ ghost use Prim.Native.Nat.{_+_, _<_};
 ghost use Rattle.tokens.specs.Arrays.{Spellings, Classes};
 ghost use Rattle.tokens.specs.Scan.{spellNumber};
 ghost use Rattle.tokens.specs.Promise.{WordNext};
-ghost use Rattle.tokens.specs.Quick.{classOf, otherOf};
+ghost use Rattle.tokens.specs.Quick.{classOf};
 
 // A token's kind (29: none, stuck at `end`), and what it carries.
 pub struct Scan {
-    pub kind: u8,
+    pub kind: u32,
     pub value: u32,
     pub end: usize,
 }
@@ -29,34 +29,31 @@ fn size(x: u8) -> usize
     x as usize
 }
 
-pub fn length_of(spellings: &[u8; 216], k: u8) -> usize
+fn wide(x: u8) -> u32
+    ensures { λ r. ⌜ r ≡ x ⌝ }
+{
+    x as u32
+}
+
+pub fn length_of(spellings: &[u8; 216], k: u32) -> usize
     requires { ⌜ Spellings (now spellings) × (k < 27) ⌝ }
     ensures { λ r. ⌜ r ≡ spellNumber k 0 ⌝ }
 {
     size(spellings[8 * (k as usize)])
 }
 
-pub fn letter_of(spellings: &[u8; 216], k: u8, j: usize) -> u8
+pub fn letter_of(spellings: &[u8; 216], k: u32, j: usize) -> u8
     requires { ⌜ Spellings (now spellings) × (k < 27) × (j < 6) ⌝ }
     ensures { λ r. ⌜ r ≡ spellNumber k (1 + j) ⌝ }
 {
     spellings[8 * (k as usize) + (1 + j)]
 }
 
-// Another token with the same first byte.
-pub fn other(k: u8, spellings: &[u8; 216]) -> u8
-    requires { ⌜ Spellings (now spellings) ⌝ }
-    ensures { λ r. ⌜ r ≡ otherOf k ⌝ }
-{
-    let i = 8 * (k as usize) + 7;
-    if i < 216 { spellings[i] } else { 29 }
-}
-
-pub fn class_of(classes: &[u8; 256], b: u8) -> u8
+pub fn class_of(classes: &[u8; 256], b: u8) -> u32
     requires { ⌜ Classes (now classes) ⌝ }
     ensures { λ r. ⌜ r ≡ classOf b ⌝ }
 {
-    classes[b as usize]
+    wide(classes[b as usize])
 }
 
 // A letter or digit is next.
@@ -67,5 +64,5 @@ pub fn word_goes_on(text: &[u8], end: usize, classes: &[u8; 256]) -> bool
     if text.len() <= end {
         return false;
     }
-    32 <= class_of(classes, text[end])
+    (class_of(classes, text[end]) & 32) != 0
 }

@@ -80,8 +80,11 @@ pub record Put (words : List ℕ) (count a b c d : ℕ) (after : List ℕ) : Typ
   pub front : take (4 * count + 4) after ≡ take (4 * count) words ++ (a ∷ b ∷ c ∷ d ∷ [])
   pub room : length after ≡ length words
 
-pub record Writing (roots deep words : List ℕ) (base count form : ℕ) : Type 0 where
+-- n nodes from `base` on are there, of which the last is the last that was written
+pub record Writing (roots deep words : List ℕ) (base n count form : ℕ) : Type 0 where
   pub room : Room roots deep words
+  pub some : 0 < n → 0 < count
+  pub last : (i : ℕ) → n ≡ suc i → getD roots (base + i) 0 ≡ count - 1
   pub base-few : base ≤ 1024
   pub free : count < 1024
   pub form-is : form ≤ 5
@@ -94,51 +97,50 @@ pub record NodeWritten (roots deep words : List ℕ) (base count form kind x : �
       (second (formOf form) (getD roots base 0) (getD roots (base + 1) 0))
       (third (formOf form) (getD roots (base + 2) 0)) words₂
 
--- some nodes are held, and those that a node of this form is made of are among them
-pub record Making (roots deep words : List ℕ) (b : Built) (form : ℕ) : Type 0 where
-  pub room : Room roots deep words
+-- the nodes that are held, as long as they are not too many, and those that a node of this form is made of are among them
+pub record Parts (roots deep words : List ℕ) (b : Built) (n : ℕ) : Type 0 where
   pub nodes : List Node
   pub held : Holds nodes roots deep words (b .depth) (b .count)
-  pub parts : arity (formOf form) ≤ length nodes
-  pub most : b .count ≤ 1024
+  pub parts : n ≤ length nodes
+
+pub record Making (roots deep words : List ℕ) (b : Built) (form : ℕ) : Type 0 where
+  pub room : Room roots deep words
+  pub most : b .count ≤ 1025
   pub form-is : form ≤ 5
-  pub not-full : b .full ≡ false
+  pub some : b .count ≤ 1024 → Parts roots deep words b (arity (formOf form))
 
 -- the nodes ns become ms, or ms are too many
 pub record Become (ns ms : List Node) (roots deep words : List ℕ) (b : Built) (roots₂ deep₂ words₂ : List ℕ) (r : Built) : Type 0 where
-  pub held : r .full ≡ false → Holds ns roots deep words (b .depth) (b .count) → Holds ms roots₂ deep₂ words₂ (r .depth) (r .count)
-  pub full : r .full ≡ true → Holds ns roots deep words (b .depth) (b .count) → 1024 < sizes ms
+  pub held : r .count ≤ 1024 → Holds ns roots deep words (b .depth) (b .count) → Holds ms roots₂ deep₂ words₂ (r .depth) (r .count)
+  pub full : 1024 < r .count → Holds ns roots deep words (b .depth) (b .count) → 1024 < sizes ms
 
-pub record Kept (roots deep words : List ℕ) (r : Built) : Type 0 where
+-- and where they were too many they still are
+pub record Kept (roots deep words : List ℕ) (b r : Built) : Type 0 where
   pub room : Room roots deep words
-  pub most : r .count ≤ 1024
+  pub most : r .count ≤ 1025
+  pub same : r .count ≤ 1024 → b .count ≤ 1024
 
 pub record Made (roots deep words : List ℕ) (b : Built) (form kind x : ℕ) (roots₂ deep₂ words₂ : List ℕ) (r : Built) : Type 0 where
   pub become : (k : Kind) (ns : List Node) → kindNumber k ≡ kind → arity (formOf form) ≤ length ns
       → Become ns (make (formOf form) k x ns) roots deep words b roots₂ deep₂ words₂ r
-  pub kept : Kept roots₂ deep₂ words₂ r
+  pub kept : Kept roots₂ deep₂ words₂ b r
 
 -- ---- a row of statements
 
 pub record Rowing (roots deep words : List ℕ) (b : Built) (k : ℕ) : Type 0 where
   pub room : Room roots deep words
-  pub nodes : List Node
-  pub held : Holds nodes roots deep words (b .depth) (b .count)
-  pub parts : k < length nodes
-  pub most : b .count ≤ 1024
-  pub not-full : b .full ≡ false
+  pub most : b .count ≤ 1025
+  pub some : b .count ≤ 1024 → Parts roots deep words b (suc k)
 
 pub record RowMade (roots deep words : List ℕ) (b : Built) (k : ℕ) (roots₂ deep₂ words₂ : List ℕ) (r : Built) : Type 0 where
   pub become : (ns : List Node) → k < length ns → Become ns (sequences k ns) roots deep words b roots₂ deep₂ words₂ r
-  pub kept : Kept roots₂ deep₂ words₂ r
+  pub kept : Kept roots₂ deep₂ words₂ b r
 
 -- ---- a frame
 
-unfoldable pub closingForm : ℕ → ℕ
-closingForm f = cond (eqb f 25) 2 (cond (eqb f 28) 5 3)
-
-unfoldable pub closingKind : ℕ → ℕ → ℕ
-closingKind f x = cond (eqb f 15) 22 (cond (eqb f 25) 21 (cond (eqb f 28) 33 x))
+-- the kind of a node made of two
+unfoldable pub kindOfTwo : ℕ → ℕ → ℕ
+kindOfTwo f x = cond (eqb f 15) 22 x
 
 -- frames from 29 on have the kind of their node
 unfoldable pub Kinded : Frame → Type 0
@@ -154,18 +156,21 @@ pub record Closable (F : Frame) (f x : ℕ) (ns : List Node) : Type 0 where
   pub more : ℕ
   pub enough : length ns ≡ suc (waitingIn F + more)
 
-pub record Closing (roots deep words : List ℕ) (b : Built) (f x : ℕ) : Type 0 where
-  pub room : Room roots deep words
+-- the nodes that are held, and the frame
+pub record Over (roots deep words : List ℕ) (b : Built) (f x : ℕ) : Type 0 where
   pub nodes : List Node
   pub held : Holds nodes roots deep words (b .depth) (b .count)
   pub frame : Frame
   pub closable : Closable frame f x nodes
-  pub most : b .count ≤ 1024
-  pub not-full : b .full ≡ false
+
+pub record Closing (roots deep words : List ℕ) (b : Built) (f x : ℕ) : Type 0 where
+  pub room : Room roots deep words
+  pub most : b .count ≤ 1025
+  pub some : b .count ≤ 1024 → Over roots deep words b f x
 
 pub record Closed (roots deep words : List ℕ) (b : Built) (f x : ℕ) (roots₂ deep₂ words₂ : List ℕ) (r : Built) : Type 0 where
   pub become : (F : Frame) (ns : List Node) → Closable F f x ns → Become ns (closing F ns) roots deep words b roots₂ deep₂ words₂ r
-  pub kept : Kept roots₂ deep₂ words₂ r
+  pub kept : Kept roots₂ deep₂ words₂ b r
 
 -- ---- frames one after the other
 
@@ -190,18 +195,21 @@ pub record Frames (fs : List Frame) (st ar : List ℕ) (top : ℕ) (ns : List No
   pub kinded : AllKinded fs
   pub enough : length ns ≡ suc (waitingAll fs)
 
-pub record Descending (roots deep words st ar : List ℕ) (b : Built) (top to : ℕ) : Type 0 where
-  pub room : Room roots deep words
+pub record AllOver (roots deep words st ar : List ℕ) (b : Built) (top to : ℕ) : Type 0 where
   pub nodes : List Node
   pub held : Holds nodes roots deep words (b .depth) (b .count)
   pub frames : List Frame
   pub stands : Frames frames st ar top nodes
   pub closes : (i : ℕ) → to ≤ i → i < top → closes (getD st i 0) ≡ true
+
+pub record Descending (roots deep words st ar : List ℕ) (b : Built) (top to : ℕ) : Type 0 where
+  pub room : Room roots deep words
+  pub most : b .count ≤ 1025
   pub fits : top ≤ 1600
-  pub most : b .count ≤ 1024
-  pub not-full : b .full ≡ false
+  pub some : b .count ≤ 1024 → AllOver roots deep words st ar b top to
 
 pub record Descended (roots deep words st ar : List ℕ) (b : Built) (top to : ℕ) (roots₂ deep₂ words₂ : List ℕ) (r : Built) : Type 0 where
   pub become : (fs : List Frame) (ns : List Node) → Frames fs st ar top ns
+      → ((i : ℕ) → to ≤ i → i < top → closes (getD st i 0) ≡ true)
       → Become ns (closings (top - to) fs ns) roots deep words b roots₂ deep₂ words₂ r
-  pub kept : Kept roots₂ deep₂ words₂ r
+  pub kept : Kept roots₂ deep₂ words₂ b r

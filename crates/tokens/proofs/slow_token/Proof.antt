@@ -1,6 +1,5 @@
--- `tokens::slow_token` meets its contract.
-use borrow.Author.Needs.{needs}
 use Rattle.tokens.proofs.TakenLaws.{taken-stuck, taken-scanned}
+use borrow.Author.Needs.{needs}
 use Rattle.tokens.proofs.slow_token.Statement.{statement}
 use Rattle.tokens.proofs.slow_token.Tie as tie
 
@@ -20,10 +19,7 @@ number-of-requires : tie.Need-number-of-requires
 number-of-requires c κs = search needs
 
 returns-2 : tie.Need-returns-2
-returns-2 c =
-    let scan-token = c .before .before .before .scan-token in
-    let if1 = c .before .before .if1 in
-    taken-scanned (scan-token .ensures) (if1 .left) (c .number-of .ensures) (c .before .locate .ensures)
+returns-2 c = taken-scanned (c .before .before .before .scan-token .ensures) (c .before .before .if1 .left) (c .number-of .ensures) (c .before .locate .ensures)
 
 pub slow-token-spec : {M : Type 1} → statement M
 slow-token-spec =

@@ -1,8 +1,6 @@
--- `rule::nodes::close_down` meets its contract. The loop's invariant: the frames from i on are closed, and closing the rest
--- down to `to` makes of the nodes held what closing all makes of the first ones.
-use mathlib.Core.Path.{refl}
 use borrow.Author.Needs.{needs}
-use Rattle.rule.proofs.DescentLaws.{Descent, descent-starts, descent-closes, descent-on, descent-full, descent-ends}
+use Rattle.rule.proofs.DescentLaws.{Descent, descent-starts, descent-closes, descent-on, descent-ends}
+use mathlib.Core.Path.{refl}
 use Rattle.rule.proofs.nodes.close_down.Statement.{statement}
 use Rattle.rule.proofs.nodes.close_down.Tie as tie
 
@@ -29,31 +27,16 @@ element-copy-out-close-2 : tie.Need-element-copy-out-close-2 Inv-loop μ-loop
 element-copy-out-close-2 c = search needs
 
 close-requires : tie.Need-close-requires Inv-loop μ-loop
-close-requires c κs =
-    let tested = c .before .before .before .before .before in
-    let here = tested .before in
-    let start = here .before in
-    descent-closes (start .pre) (here .loop .inv) (tested .loop-test .taken) refl
-
-returns : tie.Need-returns Inv-loop μ-loop
-returns c =
-    let tested = c .before .before .before .before .before .before .before in
-    let here = tested .before in
-    let start = here .before in
-    descent-full (start .pre) (here .loop .inv) (tested .loop-test .taken) refl (c .before .close .ensures) (c .if1 .taken)
+close-requires c κs = descent-closes (c .before .before .before .before .before .before .before .pre) (c .before .before .before .before .before .before .loop .inv) (c .before .before .before .before .before .loop-test .taken) refl
 
 loop-less : tie.Need-loop-less Inv-loop μ-loop
 loop-less c = search needs
 
 loop-again : tie.Need-loop-again Inv-loop μ-loop
-loop-again c =
-    let tested = c .before .before .before .before .before .before .before in
-    let here = tested .before in
-    let start = here .before in
-    descent-on (start .pre) (here .loop .inv) (tested .loop-test .taken) refl (c .before .close .ensures) (c .if1 .left)
+loop-again c = descent-on (c .before .before .before .before .before .before .before .before .pre) (c .before .before .before .before .before .before .before .loop .inv) (c .before .before .before .before .before .before .loop-test .taken) refl (c .close .ensures)
 
-returns-2 : tie.Need-returns-2 Inv-loop μ-loop
-returns-2 c = descent-ends (c .before .before .pre) (c .before .loop .inv) (c .loop-test .left)
+returns : tie.Need-returns Inv-loop μ-loop
+returns c = descent-ends (c .before .before .pre) (c .before .loop .inv) (c .loop-test .left)
 
 pub close-down-spec : {M : Type 1} → statement M
 close-down-spec =
@@ -67,7 +50,6 @@ close-down-spec =
     mul-close
     element-copy-out-close-2
     close-requires
-    returns
     loop-less
     loop-again
-    returns-2)
+    returns)

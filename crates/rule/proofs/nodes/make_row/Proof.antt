@@ -1,8 +1,6 @@
--- `rule::nodes::make_row` meets its contract. The loop's invariant: the nodes held are those of the row with i sequences made,
--- and k - i more make of them what k make of the first ones.
-use Prim.Native.Nat.{_-_}
 use borrow.Author.Needs.{needs}
-use Rattle.rule.proofs.RowLaws.{Grouping, grouping-starts, grouping-makes, grouping-on, grouping-full, grouping-ends}
+use Rattle.rule.proofs.RowLaws.{Grouping, grouping-starts, grouping-makes, grouping-on, grouping-ends}
+use Prim.Native.Nat.{_-_}
 use Rattle.rule.proofs.nodes.make_row.Statement.{statement}
 use Rattle.rule.proofs.nodes.make_row.Tie as tie
 
@@ -16,17 +14,7 @@ loop-holds : tie.Need-loop-holds Inv-loop μ-loop
 loop-holds c = grouping-starts (c .pre)
 
 make-requires : tie.Need-make-requires Inv-loop μ-loop
-make-requires c κs =
-    let tested = c .before .before .before in
-    let here = tested .before in
-    let start = here .before in
-    grouping-makes (start .pre) (here .loop .inv) (tested .loop-test .taken)
-
-returns : tie.Need-returns Inv-loop μ-loop
-returns c =
-    let tested = c .before .before .before .before .before in
-    let here = tested .before in
-    grouping-full (here .loop .inv) (tested .loop-test .taken) (c .before .make .ensures) (c .if1 .taken)
+make-requires c κs = grouping-makes (c .before .before .before .before .loop .inv) (c .before .before .before .before .before .pre) (c .before .before .before .loop-test .taken)
 
 add-i : tie.Need-add-i Inv-loop μ-loop
 add-i c = search needs
@@ -35,24 +23,12 @@ loop-less : tie.Need-loop-less Inv-loop μ-loop
 loop-less c = search needs
 
 loop-again : tie.Need-loop-again Inv-loop μ-loop
-loop-again c =
-    let tested = c .before .before .before .before .before in
-    let here = tested .before in
-    grouping-on (here .loop .inv) (tested .loop-test .taken) (c .before .make .ensures) (c .if1 .left)
+loop-again c = grouping-on (c .before .before .before .before .before .loop .inv) (c .before .before .before .before .loop-test .taken) (c .make .ensures)
 
-returns-2 : tie.Need-returns-2 Inv-loop μ-loop
-returns-2 c = grouping-ends (c .before .loop .inv) (c .loop-test .left)
+returns : tie.Need-returns Inv-loop μ-loop
+returns c = grouping-ends (c .before .loop .inv) (c .loop-test .left)
 
 pub make-row-spec : {M : Type 1} → statement M
 make-row-spec =
     tie.close
-    (tie.spec
-    Inv-loop
-    μ-loop
-    loop-holds
-    make-requires
-    returns
-    add-i
-    loop-less
-    loop-again
-    returns-2)
+    (tie.spec Inv-loop μ-loop loop-holds make-requires add-i loop-less loop-again returns)

@@ -1,45 +1,47 @@
--- `rule::nodes::write_node` meets its contract.
+use Rattle.rule.proofs.MakeLaws.{root-asks, root-is, written-is}
 use native.Mathlib.Omega.{arith}
 use borrow.Author.Needs.{needs}
-use Rattle.rule.proofs.MakeLaws.{written-is}
 use Rattle.rule.proofs.nodes.write_node.Statement.{statement}
 use Rattle.rule.proofs.nodes.write_node.Tie as tie
 
-mul-first-word : tie.Need-mul-first-word
-mul-first-word c = search needs
+mul-root : tie.Need-mul-root
+mul-root c = search needs
 
-element-copy-out-first-word : tie.Need-element-copy-out-first-word
-element-copy-out-first-word c = search needs
+element-copy-out-root : tie.Need-element-copy-out-root
+element-copy-out-root c = search needs
+
+root-requires : tie.Need-root-requires
+root-requires c κs = root-asks (c .before .pre) 0
+
+add-root : tie.Need-add-root
+add-root c = search needs
+
+mul-root-2 : tie.Need-mul-root-2
+mul-root-2 c = search needs
+
+element-copy-out-root-2 : tie.Need-element-copy-out-root-2
+element-copy-out-root-2 c = search needs
+
+root-requires-2 : tie.Need-root-requires-2
+root-requires-2 c κs = root-asks (c .before .before .before .pre) 1
+
+add-root-2 : tie.Need-add-root-2
+add-root-2 c = search needs
+
+mul-root-3 : tie.Need-mul-root-3
+mul-root-3 c = search needs
+
+element-copy-out-root-3 : tie.Need-element-copy-out-root-3
+element-copy-out-root-3 c = search needs
+
+root-requires-3 : tie.Need-root-requires-3
+root-requires-3 c κs = root-asks (c .before .before .before .before .before .pre) 2
 
 first-word-requires : tie.Need-first-word-requires
 first-word-requires c κs = search needs
 
-mul-second-word : tie.Need-mul-second-word
-mul-second-word c = search needs
-
-element-copy-out-second-word : tie.Need-element-copy-out-second-word
-element-copy-out-second-word c = search needs
-
-add-second-word : tie.Need-add-second-word
-add-second-word c = search needs
-
-mul-second-word-2 : tie.Need-mul-second-word-2
-mul-second-word-2 c = search needs
-
-element-copy-out-second-word-2 : tie.Need-element-copy-out-second-word-2
-element-copy-out-second-word-2 c = search needs
-
 second-word-requires : tie.Need-second-word-requires
 second-word-requires c κs = search needs
-
-add-third-word : tie.Need-add-third-word
-add-third-word c = search needs
-
-mul-third-word : tie.Need-mul-third-word
-mul-third-word c = search needs
-
-element-copy-out-third-word : tie.Need-element-copy-out-third-word
-element-copy-out-third-word c = search needs
 
 third-word-requires : tie.Need-third-word-requires
 third-word-requires c κs = search needs
@@ -94,29 +96,30 @@ element-write-deep c = search needs
 
 returns : tie.Need-returns
 returns c =
-    let at-put = c .before .before .before .before in
-    let at-third-word = at-put .before .before in
-    let at-second-word = at-third-word .before .before in
-    let at-first-word = at-second-word .before .before .before in
-    written-is (at-first-word .first-word .ensures) (at-second-word .second-word .ensures)
-    (at-third-word .third-word .ensures) (c .depth-below .ensures) (omega arith) (at-put .put .ensures)
+    let W = c .before .before .before .before .before .before .before .before .before .before .before .before .before .before .before .pre in
+    let a = root-is W 0 _ (omega arith) (c .before .before .before .before .before .before .before .before .before .before .before .before .before .root .ensures) in
+    let b = root-is W 1 _ (omega arith) (c .before .before .before .before .before .before .before .before .before .before .before .root2 .ensures) in
+    let d = root-is W 2 _ (omega arith) (c .before .before .before .before .before .before .before .before .before .root3 .ensures) in
+    written-is (rw (← a) (c .before .before .before .before .before .before .before .before .first-word .ensures)) (rw (← a, ← b) (c .before .before .before .before .before .before .before .second-word .ensures)) (rw (← d) (c .before .before .before .before .before .before .third-word .ensures))
+    (c .depth-below .ensures) (omega arith) (c .before .before .before .before .put .ensures)
 
 pub write-node-spec : {M : Type 1} → statement M
 write-node-spec =
     tie.close
     (tie.spec
-    mul-first-word
-    element-copy-out-first-word
+    mul-root
+    element-copy-out-root
+    root-requires
+    add-root
+    mul-root-2
+    element-copy-out-root-2
+    root-requires-2
+    add-root-2
+    mul-root-3
+    element-copy-out-root-3
+    root-requires-3
     first-word-requires
-    mul-second-word
-    element-copy-out-second-word
-    add-second-word
-    mul-second-word-2
-    element-copy-out-second-word-2
     second-word-requires
-    add-third-word
-    mul-third-word
-    element-copy-out-third-word
     third-word-requires
     put-requires
     mul-depth-below

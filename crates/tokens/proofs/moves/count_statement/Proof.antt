@@ -1,14 +1,11 @@
 -- `tokens::moves::count_statement` meets its contract.
 use borrow.Author.Needs.{needs}
-use Rattle.tokens.proofs.ArrayLaws.{counted-none, counted-empty, counted-one}
+use Rattle.tokens.proofs.ArrayLaws.{counted-empty, counted-one}
 use Rattle.tokens.proofs.moves.count_statement.Statement.{statement}
 use Rattle.tokens.proofs.moves.count_statement.Tie as tie
 
 returns : tie.Need-returns
-returns c = counted-none (c .if1 .taken)
-
-returns-2 : tie.Need-returns-2
-returns-2 c = counted-empty (c .if2 .taken)
+returns c = counted-empty (c .if1 .taken)
 
 sub-one-more : tie.Need-sub-one-more
 sub-one-more c = search needs
@@ -31,19 +28,17 @@ mul-args c = search needs
 element-write-args : tie.Need-element-write-args
 element-write-args c = search needs
 
-returns-3 : tie.Need-returns-3
-returns-3 c =
-    let if1 = c .before .before .before .if1 in
-    let if2 = c .before .before .if2 in
-    let start = c .before .before .before .before in
-    counted-one (if1 .left) (if2 .left) (start .pre .0) (start .pre .1) (c .one-more .ensures)
+returns-2 : tie.Need-returns-2
+returns-2 c =
+    let if1 = c .before .before .if1 in
+    let start = c .before .before .before in
+    counted-one (if1 .left) (start .pre .0) (start .pre .1) (c .one-more .ensures)
 
 pub count-statement-spec : {M : Type 1} → statement M
 count-statement-spec =
     tie.close
     (tie.spec
     returns
-    returns-2
     sub-one-more
     mul-one-more
     element-copy-out-one-more
@@ -51,4 +46,4 @@ count-statement-spec =
     sub-args
     mul-args
     element-write-args
-    returns-3)
+    returns-2)

@@ -1,11 +1,11 @@
 -- `tokens::moves::row_of` meets its contract.
-use borrow.Author.Needs.{needs}
-use Rattle.tokens.proofs.ArrayLaws.{row-above, row-itself}
+use native.Mathlib.Omega.{arith}
+use Rattle.tokens.proofs.ArrayLaws.{row-few, row-above, row-itself}
 use Rattle.tokens.proofs.moves.row_of.Statement.{statement}
 use Rattle.tokens.proofs.moves.row_of.Tie as tie
 
 add-result : tie.Need-add-result
-add-result c = search needs
+add-result c = let h = row-few (c .before .args .mode) (c .before .args .left) (c .if1 .taken) in omega arith
 
 returns : tie.Need-returns
 returns c = row-above _ _ (c .if1 .taken)

@@ -1,5 +1,6 @@
 -- `tokens::spelling::word_goes_on` meets its contract.
 use borrow.Author.Needs.{needs}
+use Rattle.tokens.specs.Quick.{wordClass}
 use Rattle.tokens.proofs.QuickLaws.{word-next}
 use Rattle.tokens.proofs.CodeLaws.{word-ends}
 use Rattle.tokens.proofs.spelling.word_goes_on.Statement.{statement}
@@ -15,6 +16,7 @@ class-of-requires : tie.Need-class-of-requires
 class-of-requires c κs = search needs
 
 returns-2 : tie.Need-returns-2
+unfolding wordClass
 returns-2 c =
     let if1 = c .before .before .if1 in
     word-next _ _ (if1 .left) (c .class-of .ensures)
