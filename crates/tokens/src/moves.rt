@@ -5,7 +5,7 @@ ghost use mathlib.Core.List.{[], _∷_};
 ghost use Prim.Native.Nat.{suc, _%_, _≤_};
 ghost use lib.ListN.{length};
 ghost use Rattle.tokens.specs.Flat.{act, level};
-ghost use Rattle.tokens.specs.Arrays.{Acts, RowIs, Sought, Located, Lower, Counted, Opened, Entered};
+ghost use Rattle.tokens.specs.Arrays.{Acts, RowIs, Sought, Located, Lower, Counted, Opened};
 
 // Where a move is made, and which: 0 none.
 pub struct Place {

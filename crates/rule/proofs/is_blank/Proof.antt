@@ -1,5 +1,6 @@
-use Rattle.grammar.specs.Spelling.{isBlank}
+-- `rule::is_blank` meets its contract.
 use mathlib.Core.Path.{refl}
+use Rattle.grammar.specs.Spelling.{isBlank}
 use Rattle.rule.proofs.is_blank.Statement.{statement}
 use Rattle.rule.proofs.is_blank.Tie as tie
 

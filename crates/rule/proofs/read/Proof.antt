@@ -1,11 +1,12 @@
+-- `rule::read` meets its contract.
+use mathlib.Core.Path.{refl}
+use Prim.Native.Nat.{_+_, _-_}
+use native.Mathlib.Omega.{arith}
+use lib.ListN.{length}
 use borrow.Author.Needs.{needs}
+use Rattle.tokens.specs.Tables
 use Rattle.rule.proofs.EndLaws.{Midway, midway-read, before-turn, midway-on, whole-reached}
 use Rattle.rule.proofs.ReadLaws.{starts, stuck-reached}
-use Rattle.tokens.specs.Tables
-use lib.ListN.{length}
-use native.Mathlib.Omega.{arith}
-use Prim.Native.Nat.{_+_, _-_}
-use mathlib.Core.Path.{refl}
 use Rattle.rule.proofs.read.Statement.{statement}
 use Rattle.rule.proofs.read.Tie as tie
 
@@ -21,24 +22,30 @@ skip-blanks-requires : tie.Need-skip-blanks-requires Inv-loop μ-loop
 skip-blanks-requires c κs = search needs
 
 loop-holds : tie.Need-loop-holds Inv-loop μ-loop
-loop-holds c = midway-read (starts refl refl refl refl refl refl (c .before .before .pre) refl refl refl refl refl) (c .skip-blanks .ensures)
+loop-holds c =
+    let start = c .before .before in
+    midway-read (starts refl refl refl refl refl refl (start .pre) refl refl refl refl refl) (c .skip-blanks .ensures)
 
 advance-requires : tie.Need-advance-requires Inv-loop μ-loop
 unfolding Tables.acts Tables.spellings Tables.classes Tables.numbers
-advance-requires c κs = (
-  record { is = refl },
-  record { is = refl },
-  record { is = refl },
-  record { is = refl },
-  before-turn (c .before .before .before .before .before .before .before .before .before .before .loop .inv) (c .before .before .before .before .before .before .before .before .before .loop-test .taken) (let g = c .before .before .before .before .before .before .before .before .before .before .before .before .shared-slice-known .given in omega arith),
-)
+advance-requires c κs =
+    let shared-slice-known = c .before .before .before .before .before .before .before .before .before .before .before .before .shared-slice-known in
+    let here = c .before .before .before .before .before .before .before .before .before .before .loop in
+    let tested = c .before .before .before .before .before .before .before .before .before .loop-test in (
+      record { is = refl },
+      record { is = refl },
+      record { is = refl },
+      record { is = refl },
+      before-turn (here .inv) (tested .taken) (let g = shared-slice-known .given in omega arith),
+    )
 
 refused-at-requires : tie.Need-refused-at-requires Inv-loop μ-loop
 refused-at-requires c κs = search needs
 
 returns : tie.Need-returns Inv-loop μ-loop
 returns c =
-    stuck-reached (c .before .before .advance .ensures .stuck (c .before .if1 .taken)) (c .before .before .advance .ensures .room) (c .refused-at .ensures .0) (c .refused-at .ensures .1)
+    let advance = c .before .before .advance in
+    stuck-reached (advance .ensures .stuck (c .before .if1 .taken)) (advance .ensures .room) (c .refused-at .ensures .0) (c .refused-at .ensures .1)
     (c .refused-at .ensures .2)
 
 skip-blanks-requires-2 : tie.Need-skip-blanks-requires-2 Inv-loop μ-loop
@@ -46,18 +53,29 @@ skip-blanks-requires-2 c κs = search needs
 
 loop-less : tie.Need-loop-less Inv-loop μ-loop
 loop-less c =
-    let m = midway-on (c .before .before .before .before .advance .ensures) (c .before .before .before .if1 .left) (c .skip-blanks2 .ensures) .1 in
-    let h = c .before .before .before .before .before .before .before .before .before .before .before .before .before .before .loop-test .taken in
+    let tested = c .before .before .before .before .before .before .before .before .before .before .before .before .before .before .loop-test in
+    let advance = c .before .before .before .before .advance in
+    let if1 = c .before .before .before .if1 in
+    let m = midway-on (advance .ensures) (if1 .left) (c .skip-blanks2 .ensures) .1 in
+    let h = tested .taken in
     omega arith
 
 loop-again : tie.Need-loop-again Inv-loop μ-loop
-loop-again c = midway-on (c .before .before .before .before .advance .ensures) (c .before .before .before .if1 .left) (c .skip-blanks2 .ensures) .0
+loop-again c =
+    let advance = c .before .before .before .before .advance in
+    let if1 = c .before .before .before .if1 in
+    midway-on (advance .ensures) (if1 .left) (c .skip-blanks2 .ensures) .0
 
 finish-requires : tie.Need-finish-requires Inv-loop μ-loop
-finish-requires c κs = let h = c .before .loop-test .left in c .before .before .loop .inv .after (omega arith) .room .deep-room
+finish-requires c κs =
+    let here = c .before .before .loop in
+    let h = c .before .loop-test .left in here .inv .after (omega arith) .room .deep-room
 
 returns-2 : tie.Need-returns-2 Inv-loop μ-loop
-returns-2 c = let h = c .before .before .loop-test .left in whole-reached (c .before .before .before .loop .inv .after (omega arith)) (c .finish .ensures)
+returns-2 c =
+    let here = c .before .before .before .loop in
+    let tested = c .before .before .loop-test in
+    let h = tested .left in whole-reached (here .inv .after (omega arith)) (c .finish .ensures)
 
 pub read-spec : {M : Type 1} → statement M
 read-spec =

@@ -1,9 +1,10 @@
+-- `rule::skip_blanks` meets its contract.
+use mathlib.Core.Path.{sym, _∙_}
+use Prim.Native.Nat.{_-_}
+use native.Mathlib.Omega.{arith}
+use lib.ListN.{length}
 use borrow.Author.Needs.{needs}
 use Rattle.rule.proofs.ReadLaws.{Skipping, skipping-starts, skipping-on, skipping-ends}
-use lib.ListN.{length}
-use native.Mathlib.Omega.{arith}
-use Prim.Native.Nat.{_-_}
-use mathlib.Core.Path.{sym, _∙_}
 use Rattle.rule.proofs.skip_blanks.Statement.{statement}
 use Rattle.rule.proofs.skip_blanks.Tie as tie
 
@@ -29,10 +30,15 @@ loop-less : tie.Need-loop-less Inv-loop μ-loop
 loop-less c = search needs
 
 loop-again : tie.Need-loop-again Inv-loop μ-loop
-loop-again c = skipping-on (c .before .before .before .before .loop .inv) (c .before .before .before .loop-test .taken) (sym (c .before .is-blank .ensures) ∙ c .if1 .taken)
+loop-again c =
+    let here = c .before .before .before .before .loop in
+    let tested = c .before .before .before .loop-test in
+    skipping-on (here .inv) (tested .taken) (sym (c .before .is-blank .ensures) ∙ c .if1 .taken)
 
 returns : tie.Need-returns Inv-loop μ-loop
-returns c = skipping-ends (c .before .before .before .before .loop .inv) (λ h. sym (c .before .is-blank .ensures) ∙ c .if1 .left)
+returns c =
+    let here = c .before .before .before .before .loop in
+    skipping-ends (here .inv) (λ h. sym (c .before .is-blank .ensures) ∙ c .if1 .left)
 
 returns-2 : tie.Need-returns-2 Inv-loop μ-loop
 returns-2 c = let l = c .loop-test .left in skipping-ends (c .before .loop .inv) (λ h. absurd (omega arith))

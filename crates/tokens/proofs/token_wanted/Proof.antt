@@ -1,5 +1,6 @@
-use Rattle.tokens.proofs.TakenLaws.{taken-quick}
+-- `tokens::token_wanted` meets its contract.
 use borrow.Author.Needs.{needs}
+use Rattle.tokens.proofs.TakenLaws.{taken-quick}
 use Rattle.tokens.proofs.token_wanted.Statement.{statement}
 use Rattle.tokens.proofs.token_wanted.Tie as tie
 
@@ -13,7 +14,11 @@ number-of-requires : tie.Need-number-of-requires
 number-of-requires c κs = search needs
 
 returns : tie.Need-returns
-returns c = taken-quick (c .before .before .before .before .wanted .ensures) (c .before .before .before .if1 .taken) (c .number-of .ensures) (c .before .before .locate .ensures) (c .before .if2 .taken)
+returns c =
+    let wanted = c .before .before .before .before .wanted in
+    let if1 = c .before .before .before .if1 in
+    let locate = c .before .before .locate in
+    taken-quick (wanted .ensures) (if1 .taken) (c .number-of .ensures) (locate .ensures) (c .before .if2 .taken)
 
 slow-token-requires : tie.Need-slow-token-requires
 slow-token-requires c κs = search needs

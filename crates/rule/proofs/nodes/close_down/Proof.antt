@@ -1,6 +1,7 @@
+-- `rule::nodes::close_down` meets its contract.
+use mathlib.Core.Path.{refl}
 use borrow.Author.Needs.{needs}
 use Rattle.rule.proofs.DescentLaws.{Descent, descent-starts, descent-closes, descent-on, descent-ends}
-use mathlib.Core.Path.{refl}
 use Rattle.rule.proofs.nodes.close_down.Statement.{statement}
 use Rattle.rule.proofs.nodes.close_down.Tie as tie
 
@@ -27,16 +28,26 @@ element-copy-out-close-2 : tie.Need-element-copy-out-close-2 Inv-loop μ-loop
 element-copy-out-close-2 c = search needs
 
 close-requires : tie.Need-close-requires Inv-loop μ-loop
-close-requires c κs = descent-closes (c .before .before .before .before .before .before .before .pre) (c .before .before .before .before .before .before .loop .inv) (c .before .before .before .before .before .loop-test .taken) refl
+close-requires c κs =
+    let start = c .before .before .before .before .before .before .before in
+    let here = c .before .before .before .before .before .before .loop in
+    let tested = c .before .before .before .before .before .loop-test in
+    descent-closes (start .pre) (here .inv) (tested .taken) refl
 
 loop-less : tie.Need-loop-less Inv-loop μ-loop
 loop-less c = search needs
 
 loop-again : tie.Need-loop-again Inv-loop μ-loop
-loop-again c = descent-on (c .before .before .before .before .before .before .before .before .pre) (c .before .before .before .before .before .before .before .loop .inv) (c .before .before .before .before .before .before .loop-test .taken) refl (c .close .ensures)
+loop-again c =
+    let start = c .before .before .before .before .before .before .before .before in
+    let here = c .before .before .before .before .before .before .before .loop in
+    let tested = c .before .before .before .before .before .before .loop-test in
+    descent-on (start .pre) (here .inv) (tested .taken) refl (c .close .ensures)
 
 returns : tie.Need-returns Inv-loop μ-loop
-returns c = descent-ends (c .before .before .pre) (c .before .loop .inv) (c .loop-test .left)
+returns c =
+    let start = c .before .before in
+    descent-ends (start .pre) (c .before .loop .inv) (c .loop-test .left)
 
 pub close-down-spec : {M : Type 1} → statement M
 close-down-spec =

@@ -1,3 +1,4 @@
+-- `rule::nodes::kind_of_two` meets its contract.
 use Rattle.rule.proofs.FormLaws.{kind-both, kind-own}
 use Rattle.rule.proofs.nodes.kind_of_two.Statement.{statement}
 use Rattle.rule.proofs.nodes.kind_of_two.Tie as tie

@@ -1,6 +1,7 @@
+-- `rule::nodes::make_row` meets its contract.
+use Prim.Native.Nat.{_-_}
 use borrow.Author.Needs.{needs}
 use Rattle.rule.proofs.RowLaws.{Grouping, grouping-starts, grouping-makes, grouping-on, grouping-ends}
-use Prim.Native.Nat.{_-_}
 use Rattle.rule.proofs.nodes.make_row.Statement.{statement}
 use Rattle.rule.proofs.nodes.make_row.Tie as tie
 
@@ -14,7 +15,11 @@ loop-holds : tie.Need-loop-holds Inv-loop μ-loop
 loop-holds c = grouping-starts (c .pre)
 
 make-requires : tie.Need-make-requires Inv-loop μ-loop
-make-requires c κs = grouping-makes (c .before .before .before .before .loop .inv) (c .before .before .before .before .before .pre) (c .before .before .before .loop-test .taken)
+make-requires c κs =
+    let start = c .before .before .before .before .before in
+    let here = c .before .before .before .before .loop in
+    let tested = c .before .before .before .loop-test in
+    grouping-makes (here .inv) (start .pre) (tested .taken)
 
 add-i : tie.Need-add-i Inv-loop μ-loop
 add-i c = search needs
@@ -23,7 +28,10 @@ loop-less : tie.Need-loop-less Inv-loop μ-loop
 loop-less c = search needs
 
 loop-again : tie.Need-loop-again Inv-loop μ-loop
-loop-again c = grouping-on (c .before .before .before .before .before .loop .inv) (c .before .before .before .before .loop-test .taken) (c .make .ensures)
+loop-again c =
+    let here = c .before .before .before .before .before .loop in
+    let tested = c .before .before .before .before .loop-test in
+    grouping-on (here .inv) (tested .taken) (c .make .ensures)
 
 returns : tie.Need-returns Inv-loop μ-loop
 returns c = grouping-ends (c .before .loop .inv) (c .loop-test .left)

@@ -1,9 +1,12 @@
+-- `rule::nodes::root` meets its contract.
 use borrow.Author.Needs.{needs}
 use Rattle.rule.proofs.nodes.root.Statement.{statement}
 use Rattle.rule.proofs.nodes.root.Tie as tie
 
 sub-result : tie.Need-sub-result
-sub-result c = c .before .pre .0 (c .if1 .taken)
+sub-result c =
+    let start = c .before in
+    start .pre .0 (c .if1 .taken)
 
 cast-result : tie.Need-cast-result
 cast-result c = search needs

@@ -1,6 +1,7 @@
-use Rattle.rule.proofs.MakeLaws.{root-asks, root-is, written-is}
+-- `rule::nodes::write_node` meets its contract.
 use native.Mathlib.Omega.{arith}
 use borrow.Author.Needs.{needs}
+use Rattle.rule.proofs.MakeLaws.{root-asks, root-is, written-is}
 use Rattle.rule.proofs.nodes.write_node.Statement.{statement}
 use Rattle.rule.proofs.nodes.write_node.Tie as tie
 
@@ -11,7 +12,9 @@ element-copy-out-root : tie.Need-element-copy-out-root
 element-copy-out-root c = search needs
 
 root-requires : tie.Need-root-requires
-root-requires c κs = root-asks (c .before .pre) 0
+root-requires c κs =
+    let start = c .before in
+    root-asks (start .pre) 0
 
 add-root : tie.Need-add-root
 add-root c = search needs
@@ -23,7 +26,9 @@ element-copy-out-root-2 : tie.Need-element-copy-out-root-2
 element-copy-out-root-2 c = search needs
 
 root-requires-2 : tie.Need-root-requires-2
-root-requires-2 c κs = root-asks (c .before .before .before .pre) 1
+root-requires-2 c κs =
+    let start = c .before .before .before in
+    root-asks (start .pre) 1
 
 add-root-2 : tie.Need-add-root-2
 add-root-2 c = search needs
@@ -35,7 +40,9 @@ element-copy-out-root-3 : tie.Need-element-copy-out-root-3
 element-copy-out-root-3 c = search needs
 
 root-requires-3 : tie.Need-root-requires-3
-root-requires-3 c κs = root-asks (c .before .before .before .before .before .pre) 2
+root-requires-3 c κs =
+    let start = c .before .before .before .before .before in
+    root-asks (start .pre) 2
 
 first-word-requires : tie.Need-first-word-requires
 first-word-requires c κs = search needs
@@ -96,12 +103,20 @@ element-write-deep c = search needs
 
 returns : tie.Need-returns
 returns c =
-    let W = c .before .before .before .before .before .before .before .before .before .before .before .before .before .before .before .pre in
-    let a = root-is W 0 _ (omega arith) (c .before .before .before .before .before .before .before .before .before .before .before .before .before .root .ensures) in
-    let b = root-is W 1 _ (omega arith) (c .before .before .before .before .before .before .before .before .before .before .before .root2 .ensures) in
-    let d = root-is W 2 _ (omega arith) (c .before .before .before .before .before .before .before .before .before .root3 .ensures) in
-    written-is (rw (← a) (c .before .before .before .before .before .before .before .before .first-word .ensures)) (rw (← a, ← b) (c .before .before .before .before .before .before .before .second-word .ensures)) (rw (← d) (c .before .before .before .before .before .before .third-word .ensures))
-    (c .depth-below .ensures) (omega arith) (c .before .before .before .before .put .ensures)
+    let start = c .before .before .before .before .before .before .before .before .before .before .before .before .before .before .before in
+    let root = c .before .before .before .before .before .before .before .before .before .before .before .before .before .root in
+    let root2 = c .before .before .before .before .before .before .before .before .before .before .before .root2 in
+    let root3 = c .before .before .before .before .before .before .before .before .before .root3 in
+    let first-word = c .before .before .before .before .before .before .before .before .first-word in
+    let second-word = c .before .before .before .before .before .before .before .second-word in
+    let third-word = c .before .before .before .before .before .before .third-word in
+    let put = c .before .before .before .before .put in
+    let W = start .pre in
+    let a = root-is W 0 _ (omega arith) (root .ensures) in
+    let b = root-is W 1 _ (omega arith) (root2 .ensures) in
+    let d = root-is W 2 _ (omega arith) (root3 .ensures) in
+    written-is (rw (← a) (first-word .ensures)) (rw (← a, ← b) (second-word .ensures)) (rw (← d) (third-word .ensures))
+    (c .depth-below .ensures) (omega arith) (put .ensures)
 
 pub write-node-spec : {M : Type 1} → statement M
 write-node-spec =

@@ -1,7 +1,8 @@
-use Rattle.rule.proofs.EndLaws.{wanting-open, frames-open, nothing-open}
-use native.Mathlib.Omega.{arith}
+-- `rule::turns::next_at_end` meets its contract.
 use mathlib.Core.Path.{refl}
+use native.Mathlib.Omega.{arith}
 use borrow.Author.Needs.{needs}
+use Rattle.rule.proofs.EndLaws.{wanting-open, frames-open, nothing-open}
 use Rattle.rule.proofs.turns.next_at_end.Statement.{statement}
 use Rattle.rule.proofs.turns.next_at_end.Tie as tie
 
@@ -18,13 +19,19 @@ stuck-at-requires-2 : tie.Need-stuck-at-requires-2
 stuck-at-requires-2 c κs = search needs
 
 returns-2 : tie.Need-returns-2
-returns-2 c = let o = c .before .if2 .taken in frames-open (c .before .before .before .before .if1 .left) (c .before .before .before .locate .ensures) (λ e. omega arith) (c .stuck-at2 .ensures)
+returns-2 c =
+    let if1 = c .before .before .before .before .if1 in
+    let locate = c .before .before .before .locate in
+    let o = c .before .if2 .taken in frames-open (if1 .left) (locate .ensures) (λ e. omega arith) (c .stuck-at2 .ensures)
 
 add-t7 : tie.Need-add-t7
 add-t7 c = search needs
 
 returns-3 : tie.Need-returns-3
-returns-3 c = let o = c .if2 .left in nothing-open (c .before .before .before .if1 .left) (c .before .before .locate .ensures) (omega arith) refl refl refl refl
+returns-3 c =
+    let if1 = c .before .before .before .if1 in
+    let locate = c .before .before .locate in
+    let o = c .if2 .left in nothing-open (if1 .left) (locate .ensures) (omega arith) refl refl refl refl
 
 pub next-at-end-spec : {M : Type 1} → statement M
 next-at-end-spec =

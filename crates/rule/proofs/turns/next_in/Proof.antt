@@ -1,7 +1,8 @@
-use Rattle.rule.proofs.ReadLaws.{next-found, next-end}
-use native.Mathlib.Omega.{arith}
+-- `rule::turns::next_in` meets its contract.
 use mathlib.Core.Path.{refl}
+use native.Mathlib.Omega.{arith}
 use borrow.Author.Needs.{needs}
+use Rattle.rule.proofs.ReadLaws.{next-found, next-end}
 use Rattle.rule.proofs.turns.next_in.Statement.{statement}
 use Rattle.rule.proofs.turns.next_in.Tie as tie
 
@@ -19,17 +20,21 @@ class-of-requires c κs = search needs
 
 token-following-requires : tie.Need-token-following-requires
 token-following-requires c κs =
-    let l = c .before .before .if1 .left in
-    let n = c .before .before .before .before .pre .4 in (
-      c .before .before .before .before .pre .0,
-      c .before .before .before .before .pre .1,
-      c .before .before .before .before .pre .2,
-      c .before .before .before .before .pre .3,
+    let start = c .before .before .before .before in
+    let if1 = c .before .before .if1 in
+    let l = if1 .left in
+    let n = start .pre .4 in (
+      start .pre .0,
+      start .pre .1,
+      start .pre .2,
+      start .pre .3,
       record { fits = n .fits; inside = omega arith; no-blank = n .no-blank (omega arith); is = c .class-of .ensures },
     )
 
 returns-2 : tie.Need-returns-2
-returns-2 c = let l = c .before .before .before .before .if1 .left in next-found (c .before .token-following .ensures) (omega arith) refl refl refl refl refl
+returns-2 c =
+    let if1 = c .before .before .before .before .if1 in
+    let l = if1 .left in next-found (c .before .token-following .ensures) (omega arith) refl refl refl refl refl
 
 pub next-in-spec : {M : Type 1} → statement M
 next-in-spec =

@@ -1,5 +1,6 @@
-use Rattle.tokens.proofs.QuickLaws.{class-at, begun, quick-alone, quick-none, then-word, do-word, and-word}
+-- `tokens::quick::following` meets its contract.
 use borrow.Author.Needs.{needs}
+use Rattle.tokens.proofs.QuickLaws.{class-at, begun, quick-alone, quick-none, then-word, do-word, and-word}
 use Rattle.tokens.proofs.quick.following.Statement.{statement}
 use Rattle.tokens.proofs.quick.following.Tie as tie
 
@@ -13,22 +14,30 @@ fixed-requires : tie.Need-fixed-requires
 fixed-requires c κs = search needs
 
 returns : tie.Need-returns
-returns c = quick-alone (c .before .before .before .pre .1) (c .before .if1 .taken) (c .fixed .ensures)
+returns c =
+    let start = c .before .before .before in
+    quick-alone (start .pre .1) (c .before .if1 .taken) (c .fixed .ensures)
 
 at-most-or-less-requires : tie.Need-at-most-or-less-requires
 at-most-or-less-requires c κs = search needs
 
 word4-requires : tie.Need-word4-requires
-word4-requires c κs = (c .before .before .before .pre .0, begun (class-at (c .before .before .before .pre .1) (c .match .keys2)) then-word)
+word4-requires c κs =
+    let start = c .before .before .before in
+    (start .pre .0, begun (class-at (start .pre .1) (c .match .keys2)) then-word)
 
 else-or-end-requires : tie.Need-else-or-end-requires
 else-or-end-requires c κs = search needs
 
 word2-requires : tie.Need-word2-requires
-word2-requires c κs = (c .before .before .before .pre .0, begun (class-at (c .before .before .before .pre .1) (c .match .keys4)) do-word)
+word2-requires c κs =
+    let start = c .before .before .before in
+    (start .pre .0, begun (class-at (start .pre .1) (c .match .keys4)) do-word)
 
 word3-requires : tie.Need-word3-requires
-word3-requires c κs = (c .before .before .before .pre .0, begun (class-at (c .before .before .before .pre .1) (c .match .keys5)) and-word)
+word3-requires c κs =
+    let start = c .before .before .before in
+    (start .pre .0, begun (class-at (start .pre .1) (c .match .keys5)) and-word)
 
 stuck-requires : tie.Need-stuck-requires
 stuck-requires c κs = search needs

@@ -1,7 +1,8 @@
-use Rattle.tokens.proofs.QuickLaws.{skip-word, if-word, true-word, while-word, choose-word, not-word, false-word}
-use Rattle.tokens.proofs.QuickLaws.{class-at, digit-class, v-class, begun, quick-alone, quick-none}
+-- `tokens::quick::wanted` meets its contract.
 use native.Mathlib.Omega.{arith}
 use borrow.Author.Needs.{needs}
+use Rattle.tokens.proofs.QuickLaws.{skip-word, if-word, true-word, while-word, choose-word, not-word, false-word}
+use Rattle.tokens.proofs.QuickLaws.{class-at, digit-class, v-class, begun, quick-alone, quick-none}
 use Rattle.tokens.proofs.quick.wanted.Statement.{statement}
 use Rattle.tokens.proofs.quick.wanted.Tie as tie
 
@@ -9,31 +10,49 @@ becomes-requires : tie.Need-becomes-requires
 becomes-requires c κs = search needs
 
 word4-requires : tie.Need-word4-requires
-word4-requires c κs = (c .before .before .pre .0, begun (class-at (c .before .before .pre .1) (c .match .keys2)) skip-word)
+word4-requires c κs =
+    let start = c .before .before in
+    (start .pre .0, begun (class-at (start .pre .1) (c .match .keys2)) skip-word)
 
 word2-requires : tie.Need-word2-requires
-word2-requires c κs = (c .before .before .pre .0, begun (class-at (c .before .before .pre .1) (c .match .keys3)) if-word)
+word2-requires c κs =
+    let start = c .before .before in
+    (start .pre .0, begun (class-at (start .pre .1) (c .match .keys3)) if-word)
 
 word4-requires-2 : tie.Need-word4-requires-2
-word4-requires-2 c κs = (c .before .before .pre .0, begun (class-at (c .before .before .pre .1) (c .match .keys4)) true-word)
+word4-requires-2 c κs =
+    let start = c .before .before in
+    (start .pre .0, begun (class-at (start .pre .1) (c .match .keys4)) true-word)
 
 word5-requires : tie.Need-word5-requires
-word5-requires c κs = (c .before .before .pre .0, begun (class-at (c .before .before .pre .1) (c .match .keys5)) while-word)
+word5-requires c κs =
+    let start = c .before .before in
+    (start .pre .0, begun (class-at (start .pre .1) (c .match .keys5)) while-word)
 
 word6-requires : tie.Need-word6-requires
-word6-requires c κs = (c .before .before .pre .0, begun (class-at (c .before .before .pre .1) (c .match .keys6)) choose-word)
+word6-requires c κs =
+    let start = c .before .before in
+    (start .pre .0, begun (class-at (start .pre .1) (c .match .keys6)) choose-word)
 
 word3-requires : tie.Need-word3-requires
-word3-requires c κs = (c .before .before .pre .0, begun (class-at (c .before .before .pre .1) (c .match .keys7)) not-word)
+word3-requires c κs =
+    let start = c .before .before in
+    (start .pre .0, begun (class-at (start .pre .1) (c .match .keys7)) not-word)
 
 word5-requires-2 : tie.Need-word5-requires-2
-word5-requires-2 c κs = (c .before .before .pre .0, begun (class-at (c .before .before .pre .1) (c .match .keys8)) false-word)
+word5-requires-2 c κs =
+    let start = c .before .before in
+    (start .pre .0, begun (class-at (start .pre .1) (c .match .keys8)) false-word)
 
 parted-number-requires : tie.Need-parted-number-requires
-parted-number-requires c κs = (c .before .before .pre .0, digit-class (class-at (c .before .before .pre .1) (c .match .keys9)))
+parted-number-requires c κs =
+    let start = c .before .before in
+    (start .pre .0, digit-class (class-at (start .pre .1) (c .match .keys9)))
 
 parted-variable-requires : tie.Need-parted-variable-requires
-parted-variable-requires c κs = (c .before .before .pre .0, v-class (class-at (c .before .before .pre .1) (c .match .keys10)))
+parted-variable-requires c κs =
+    let start = c .before .before in
+    (start .pre .0, v-class (class-at (start .pre .1) (c .match .keys10)))
 
 add-fixed : tie.Need-add-fixed
 add-fixed c = search needs
@@ -81,10 +100,16 @@ returns-10 : tie.Need-returns-10
 returns-10 c = search needs
 
 returns-11 : tie.Need-returns-11
-returns-11 c = quick-alone (class-at (c .before .before .before .pre .1) (c .before .match .keys11)) (omega arith) (c .fixed .ensures)
+returns-11 c =
+    let start = c .before .before .before in
+    let act = c .before .match .keys11 in
+    quick-alone (class-at (start .pre .1) (act)) (omega arith) (c .fixed .ensures)
 
 returns-12 : tie.Need-returns-12
-returns-12 c = quick-alone (class-at (c .before .before .before .pre .1) (c .before .match .keys12)) (omega arith) (c .fixed2 .ensures)
+returns-12 c =
+    let start = c .before .before .before in
+    let act = c .before .match .keys12 in
+    quick-alone (class-at (start .pre .1) (act)) (omega arith) (c .fixed2 .ensures)
 
 returns-13 : tie.Need-returns-13
 returns-13 c = quick-none (c .stuck .ensures .0)
