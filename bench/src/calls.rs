@@ -1,10 +1,10 @@
 //! The cost of a call that does not run anything: check, compilation, text, typed rules.
 
-use crate::measure::{columns, side_by_side, timed};
+use crate::measure::{columns, in_turn, side_by_side, timed, Pair};
 use crate::ours::Ours;
 use crate::workloads::{deepest_table_of_1000_nodes, deepest_typed_rule, table_of_1000_nodes, typed_rule};
 use outside::oracle;
-use outside::oracle::answer::{Answer, DONE};
+use outside::oracle::answer::{done, refused, Answer, DONE};
 use std::hint::black_box;
 use std::time::Duration;
 
@@ -50,17 +50,33 @@ pub fn calls(ours: &Ours) {
         )
     });
     assert!(words == plain_words && bytes == plain_bytes);
+    let mut parsed_words = words.clone();
     for (name, rule) in [
         ("reading a typed rule of 1,000 nodes", typed_rule()),
         ("reading a typed rule, 256 levels of brackets", deepest_typed_rule()),
     ] {
-        let pair = side_by_side(
+        let [ours, plain, parser] = in_turn(
             CALLS,
-            || repeat(|| ours.read_rule(&rule, &mut words)),
-            || repeat(|| oracle::read_rule(&rule, &mut plain_words)),
+            [
+                &mut || repeat(|| ours.read_rule(&rule, &mut words)),
+                &mut || repeat(|| oracle::read_rule(&rule, &mut plain_words)),
+                &mut || repeat(|| parse_rule(&rule, &mut parsed_words)),
+            ],
         );
-        println!("| {name} | {} |", columns(pair));
-        assert!(words == plain_words);
+        println!("| {name} | {} |", columns(Pair { ours, plain }));
+        println!("| the same, beside the parser alone | {} |", columns(Pair { ours, plain: parser }));
+        assert!(words == plain_words && words == parsed_words);
+    }
+}
+
+/// The oracle's parser alone: the same words in the room, and no check of the table that they make.
+pub fn parse_rule(text: &[u8], room: &mut [u32]) -> Answer {
+    match oracle::rule::parse(text) {
+        Ok(table) => {
+            room[..table.len()].copy_from_slice(&table);
+            done(0, table.len() as u32)
+        }
+        Err(refusal) => refused(refusal),
     }
 }
 

@@ -1,6 +1,7 @@
 //! One call and nothing else, for a tool that counts instructions: `bench ours a-code`, `bench plain read`.
 //! It prints what the count is to be divided by: the steps of a run, the crews of a depot, or 1.
 
+use crate::calls::parse_rule;
 use crate::ours::Ours;
 use crate::runs::first_store;
 use crate::workloads::{deepest_table_of_1000_nodes, deepest_typed_rule, depots, programs};
@@ -83,18 +84,22 @@ fn call(ours: Option<&Ours>, row: &str) -> Answer {
         (Some(ours), "compile") => counted(|| ours.compile(&table, 1, &mut words)),
         (Some(ours), "read") => counted(|| ours.read_text(&text, &mut words)),
         (Some(ours), "write") => counted(|| ours.write_text(&table, &mut bytes)),
-        (Some(ours), "read-rule") => counted(|| ours.read_rule(&rule, &mut words)),
-        (Some(ours), "read-rule-deep") => counted(|| ours.read_rule(&deepest_rule, &mut words)),
+        (Some(ours), "read-rule" | "read-rule-parser") => counted(|| ours.read_rule(&rule, &mut words)),
+        (Some(ours), "read-rule-deep" | "read-rule-deep-parser") => {
+            counted(|| ours.read_rule(&deepest_rule, &mut words))
+        }
         (None, "check") => counted(|| oracle::check(&table)),
         (None, "check-deep") => counted(|| oracle::check(&deepest)),
         (None, "compile") => counted(|| oracle::compile(&table, 1, &mut words)),
         (None, "read") => counted(|| oracle::read_text(&text, &mut words)),
         (None, "write") => counted(|| oracle::write_text(&table, &mut bytes)),
         (None, "read-rule") => counted(|| oracle::read_rule(&rule, &mut words)),
+        (None, "read-rule-parser") => counted(|| parse_rule(&rule, &mut words)),
         (None, "read-rule-deep") => counted(|| oracle::read_rule(&deepest_rule, &mut words)),
+        (None, "read-rule-deep-parser") => counted(|| parse_rule(&deepest_rule, &mut words)),
         _ => panic!(
-            "the row is a run, as a-code, a depot, as depot-a, or check, check-deep, compile, read, write, read-rule or \
-             read-rule-deep"
+            "the row is a run, as a-code, a depot, as depot-a, or check, check-deep, compile, read, write, read-rule, \
+             read-rule-parser, read-rule-deep or read-rule-deep-parser"
         ),
     }
 }

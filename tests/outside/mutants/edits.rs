@@ -1120,8 +1120,8 @@ pub const EDITS: &[Edit] = &[
         says: "no blank may stand before the first word",
         file: "rule.rs",
         from: "        self.blanks();
-        let root",
-        to: "        let root",
+        self.row()?;",
+        to: "        self.row()?;",
     },
     Edit {
         says: "what stands after a rule is not looked at",
@@ -1179,14 +1179,14 @@ pub const EDITS: &[Edit] = &[
     Edit {
         says: "the place is before the blanks",
         file: "rule.rs",
-        from: "        return refuse(17, reader.place);",
-        to: "        return refuse(17, text[..reader.place].trim_ascii_end().len());",
+        from: "refuse(17, reader.place)",
+        to: "refuse(17, text[..reader.place].trim_ascii_end().len())",
     },
     Edit {
         says: "the place is counted in lines",
         file: "rule.rs",
-        from: "        return refuse(17, reader.place);",
-        to: "        return refuse(17, text[..reader.place].iter().filter(|&&byte| byte == b'\\n').count());",
+        from: "refuse(17, reader.place)",
+        to: "refuse(17, text[..reader.place].iter().filter(|&&byte| byte == b'\\n').count())",
     },
     Edit {
         says: "the place of a word with more behind it is its start",
@@ -1199,130 +1199,246 @@ pub const EDITS: &[Edit] = &[
     },
     // The limits of a typed rule, and the order of its refusals.
     Edit {
-        says: "1,025 nodes pass",
+        says: "a rule's table is not checked",
         file: "rule.rs",
-        from: "reader.nodes.len() > MOST_NODES",
-        to: "reader.nodes.len() > MOST_NODES + 1",
+        from: "    check(&table)?;",
+        to: "",
     },
     Edit {
-        says: "1,024 nodes do not pass",
+        says: "a rule of 1,025 nodes passes",
         file: "rule.rs",
-        from: "reader.nodes.len() > MOST_NODES",
-        to: "reader.nodes.len() >= MOST_NODES",
+        from: "    check(&table)?;",
+        to: "    if table.len() != 4 * 1025 {
+        check(&table)?;
+    }",
+    },
+    Edit {
+        says: "a rule of 1,024 nodes does not pass",
+        file: "rule.rs",
+        from: "    check(&table)?;",
+        to: "    if table.len() == 4 * 1024 {
+        return refuse(1, 0);
+    }
+    check(&table)?;",
+    },
+    Edit {
+        says: "a rule of any number of nodes passes",
+        file: "rule.rs",
+        from: "    check(&table)?;",
+        to: "    if table.len() <= 4 * MOST_NODES {
+        check(&table)?;
+    }",
+    },
+    Edit {
+        says: "a rule of too many nodes is not in the grammar",
+        file: "rule.rs",
+        from: "    check(&table)?;",
+        to: "    if table.len() > 4 * MOST_NODES {
+        return refuse(17, text.len());
+    }
+    check(&table)?;",
+    },
+    Edit {
+        says: "the place of 1 in a rule is the first node too many",
+        file: "rule.rs",
+        from: "    check(&table)?;",
+        to: "    if table.len() > 4 * MOST_NODES {
+        return refuse(1, MOST_NODES);
+    }
+    check(&table)?;",
+    },
+    Edit {
+        says: "the nodes of a rule are counted in 16 bits",
+        file: "rule.rs",
+        from: "    check(&table)?;",
+        to: "    check(&table[..table.len() % (4 * 65_536)])?;",
     },
     Edit {
         says: "a rule of depth 257 passes",
         file: "rule.rs",
-        from: "root.depth > MOST_DEPTH",
-        to: "root.depth > MOST_DEPTH + 1",
+        from: "    check(&table)?;",
+        to: "    match check(&table) {
+        Err(Refusal { number: 9, .. }) if super::table::depth(&table) == 257 => {}
+        checked => checked?,
+    }",
     },
     Edit {
         says: "a rule of depth 256 does not pass",
         file: "rule.rs",
-        from: "root.depth > MOST_DEPTH",
-        to: "root.depth >= MOST_DEPTH",
+        from: "    check(&table)?;",
+        to: "    check(&table)?;
+    if super::table::depth(&table) == 256 {
+        return refuse(9, 0);
+    }",
+    },
+    Edit {
+        says: "a rule of any depth passes",
+        file: "rule.rs",
+        from: "    check(&table)?;",
+        to: "    match check(&table) {
+        Err(Refusal { number: 9, .. }) => {}
+        checked => checked?,
+    }",
     },
     Edit {
         says: "brackets count for the depth",
         file: "rule.rs",
-        from: "                self.sign(b')')?;
-                self.close();
-                Ok(inner)",
-        to: "                self.sign(b')')?;
-                self.close();
-                Ok(Part { depth: inner.depth + 1, ..inner })",
+        from: "    check(&table)?;",
+        to: "    check(&table)?;
+    let (mut open, mut most) = (0, 0);
+    for byte in text {
+        open += i32::from(*byte == b'(') - i32::from(*byte == b')');
+        most = open.max(most);
+    }
+    if super::table::depth(&table) + most as u32 > 256 {
+        return refuse(9, 0);
+    }",
     },
     Edit {
-        says: "the depth is that of the first child",
+        says: "the depth of a rule is that along first children",
         file: "rule.rs",
-        from: "            deepest = child.depth.max(deepest);",
-        to: "            deepest = if deepest == 0 { child.depth } else { deepest };",
+        from: "    check(&table)?;",
+        to: "    let mut depths = vec![];
+    for node in 0..table.len() / 4 {
+        let first = super::table::children(&table, node).first();
+        depths.push(first.map_or(1, |&child| depths[child as usize] + 1));
+    }
+    match check(&table) {
+        Err(Refusal { number: 9, .. }) if depths.last() <= Some(&256) => {}
+        checked => checked?,
+    }",
+    },
+    Edit {
+        says: "the depth of a rule counts statements only",
+        file: "rule.rs",
+        from: "    check(&table)?;",
+        to: "    let mut depths = vec![];
+    for node in 0..table.len() / 4 {
+        let below = super::table::children(&table, node).iter().map(|&child| depths[child as usize]);
+        let deepest: u32 = below.max().unwrap_or(0);
+        depths.push(deepest + u32::from(table[4 * node] >= SKIP));
+    }
+    match check(&table) {
+        Err(Refusal { number: 9, .. }) if depths.last() <= Some(&256) => {}
+        checked => checked?,
+    }",
+    },
+    Edit {
+        says: "the place of 9 in a rule is its root",
+        file: "rule.rs",
+        from: "    check(&table)?;",
+        to: "    match check(&table) {
+        Err(Refusal { number: 9, .. }) => return refuse(9, table.len() / 4 - 1),
+        checked => checked?,
+    }",
+    },
+    Edit {
+        says: "a rule that is too deep is refused 1",
+        file: "rule.rs",
+        from: "    check(&table)?;",
+        to: "    check(&table).or_else(|refusal| refuse(1, refusal.place))?;",
     },
     Edit {
         says: "refusal 1 comes before 17",
         file: "rule.rs",
-        from: "    let Ok(root) = reader.rule() else {",
-        to: "    let Ok(root) = reader.rule() else {
-        if reader.nodes.len() > MOST_NODES {
-            return refuse(1, 0);
-        }",
+        from: "        Err(Stopped) => refuse(17, reader.place),",
+        to: "        Err(Stopped) if reader.nodes.len() > MOST_NODES => refuse(1, 0),
+        Err(Stopped) => refuse(17, reader.place),",
+    },
+    Edit {
+        says: "refusal 9 comes before 17",
+        file: "rule.rs",
+        from: "        Err(Stopped) => refuse(17, reader.place),",
+        to: "        Err(Stopped) if super::table::depth(reader.nodes.as_flattened()) > 256 => refuse(9, 0),
+        Err(Stopped) => refuse(17, reader.place),",
     },
     Edit {
         says: "refusal 9 comes before 1",
         file: "rule.rs",
-        from: "    if reader.nodes.len() > MOST_NODES {",
-        to: "    if root.depth > MOST_DEPTH {
+        from: "    check(&table)?;",
+        to: "    if super::table::depth(&table) > 256 {
         return refuse(9, 0);
     }
-    if reader.nodes.len() > MOST_NODES {",
+    check(&table)?;",
     },
     Edit {
         says: "refusal 15 comes before 9",
         file: "rule.rs",
-        from: "    if root.depth > MOST_DEPTH {",
-        to: "    if room.len() < 4 * reader.nodes.len() {
+        from: "    check(&table)?;",
+        to: "    if table.len() <= 4 * MOST_NODES && room.len() < table.len() {
         return refuse(15, 0);
     }
-    if root.depth > MOST_DEPTH {",
+    check(&table)?;",
     },
     Edit {
         says: "refusal 15 comes before 1 in a rule",
         file: "rule.rs",
-        from: "    if reader.nodes.len() > MOST_NODES {",
-        to: "    if room.len() < 4 * reader.nodes.len() {
+        from: "    check(&table)?;",
+        to: "    if table.len() > 4 * MOST_NODES && room.len() < table.len() {
         return refuse(15, 0);
     }
-    if reader.nodes.len() > MOST_NODES {",
+    check(&table)?;",
     },
     Edit {
         says: "refusal 15 comes before 17",
         file: "rule.rs",
-        from: "    let Ok(root) = reader.rule() else {",
-        to: "    let Ok(root) = reader.rule() else {
-        if room.len() < 4 * reader.nodes.len() {
-            return refuse(15, 0);
-        }",
+        from: "    let table = parse(text)?;",
+        to: "    let table = match parse(text) {
+        Err(_) if room.len() < nodes_of(text).len() => return refuse(15, 0),
+        parsed => parsed?,
+    };",
     },
     Edit {
         says: "a rule's room may be one word short",
         file: "rule.rs",
-        from: "    if room.len() < words.len() {
+        from: "    if room.len() < table.len() {
         return refuse(15, 0);
     }
-    room[..words.len()].copy_from_slice(words);",
-        to: "    if room.len() + 1 < words.len() {
+    room[..table.len()].copy_from_slice(&table);",
+        to: "    if room.len() + 1 < table.len() {
         return refuse(15, 0);
     }
-    let fits = words.len().min(room.len());
-    room[..fits].copy_from_slice(&words[..fits]);",
+    let fits = table.len().min(room.len());
+    room[..fits].copy_from_slice(&table[..fits]);",
     },
     Edit {
         says: "the room holds what fits of a rule refused 15",
         file: "rule.rs",
-        from: "    if room.len() < words.len() {",
-        to: "    if room.len() < words.len() {
-        room.copy_from_slice(&words[..room.len()]);",
+        from: "    if room.len() < table.len() {",
+        to: "    if room.len() < table.len() {
+        room.copy_from_slice(&table[..room.len()]);",
+    },
+    Edit {
+        says: "the room holds what fits of a rule refused 1 or 9",
+        file: "rule.rs",
+        from: "    check(&table)?;",
+        to: "    if let Err(refusal) = check(&table) {
+        let fits = table.len().min(room.len());
+        room[..fits].copy_from_slice(&table[..fits]);
+        return Err(refusal);
+    }",
     },
     Edit {
         says: "the room holds the nodes before the place",
         file: "rule.rs",
-        from: "    let Ok(root) = reader.rule() else {",
-        to: "    let Ok(root) = reader.rule() else {
-        for (word, node) in room.iter_mut().zip(reader.nodes.as_flattened()) {
-            *word = *node;
-        }",
+        from: "    let table = parse(text)?;",
+        to: "    let table = parse(text).inspect_err(|_| {
+        for (word, node) in room.iter_mut().zip(nodes_of(text)) {
+            *word = node;
+        }
+    })?;",
     },
     Edit {
         says: "the room behind a rule's table is cleared",
         file: "rule.rs",
-        from: "    room[..words.len()].copy_from_slice(words);",
-        to: "    room[..words.len()].copy_from_slice(words);
-    room[words.len()..].fill(0);",
+        from: "    room[..table.len()].copy_from_slice(&table);",
+        to: "    room[..table.len()].copy_from_slice(&table);
+    room[table.len()..].fill(0);",
     },
     Edit {
         says: "a rule's nodes are told, not its words",
         file: "rule.rs",
-        from: "Ok(done(0, words.len() as u32))",
-        to: "Ok(done(0, words.len() as u32 / 4))",
+        from: "Ok(done(0, table.len() as u32))",
+        to: "Ok(done(0, table.len() as u32 / 4))",
     },
 ];

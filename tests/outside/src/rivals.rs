@@ -81,8 +81,7 @@ fn grounds(case: &Case) -> Vec<Refusal> {
         Case::ReadRule { text, room } => {
             // In a text that is not in the grammar, the nodes before the place count.
             let nodes = rule::nodes_of(text);
-            let stopped = rule::read(text, &mut [0; 4096]).err().filter(|refusal| refusal.number == 17);
-            let mut grounds: Vec<Refusal> = stopped.into_iter().collect();
+            let mut grounds: Vec<Refusal> = rule::parse(text).err().into_iter().collect();
             add(&mut grounds, nodes.len() > 4 * table::MOST_NODES, 1, 0);
             add(&mut grounds, table::depth(&nodes) > table::MOST_DEPTH, 9, 0);
             add(&mut grounds, room.len() < nodes.len(), 15, 0);

@@ -4,7 +4,6 @@ use super::small_program;
 use crate::case::Case;
 use crate::generate::rules::{damage_byte, damage_token, text, to_the_edge, typed, Typed};
 use crate::generate::*;
-use crate::oracle::answer::Refusal;
 use crate::oracle::rule::{self, nodes_of};
 use crate::oracle::table::Class;
 use crate::random::Random;
@@ -287,9 +286,9 @@ pub fn growing_rules(random: &mut Random) -> Vec<Case> {
 }
 
 fn begins_a_rule(text: &[u8]) -> bool {
-    match rule::read(text, &mut [0; 4096]) {
-        Err(Refusal { number: 17, place }) => place == text.len(),
-        _ => true,
+    match rule::parse(text) {
+        Err(stopped) => stopped.place == text.len(),
+        Ok(_) => true,
     }
 }
 
@@ -307,6 +306,8 @@ pub fn long_rules() -> Vec<Case> {
         [b"v0 := ".to_vec(), many(b'(')].concat(),
         b"skip;".repeat(LONG / 5),
         [b"skip;".repeat(LONG / 5), b"skip".to_vec()].concat(),
+        // 65,537 nodes, a number that is 1 in 16 bits.
+        [b"skip;".repeat(32_768), b"skip".to_vec()].concat(),
         [b"v0 := 1".to_vec(), b"+1".repeat(LONG / 2)].concat(),
         [b"while true".to_vec(), b" and true".repeat(LONG / 9), b" do skip end".to_vec()].concat(),
     ];

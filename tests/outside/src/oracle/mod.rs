@@ -56,7 +56,8 @@ pub fn write_text(words: &[u32], room: &mut [u8]) -> Answer {
     text::write(words, room).unwrap_or_else(refused)
 }
 
-/// A typed rule to the words of its table: done with the number of words, or refused 17, 1, 9, 15, in that order.
+/// A typed rule to the words of its table: done with the number of words, or refused 17, then as the check refuses that
+/// table, then 15.
 pub fn read_rule(text: &[u8], room: &mut [u32]) -> Answer {
     rule::read(text, room).unwrap_or_else(refused)
 }

@@ -1,8 +1,8 @@
-//! Request A4, "rules as planners type them", by plain recursive descent. The reader looks at one byte at a time and never
-//! goes back: where it stops is the place of 17.
+//! Request A4, "rules as planners type them". The grammar by plain recursive descent: the parser looks at one byte at a time
+//! and never goes back, and where it stops is the place of 17. The table that it makes is then checked as any table is.
 
 use super::answer::{done, refuse, Answer, Refusal};
-use super::table::{MOST_DEPTH, MOST_NODES};
+use super::table::{check, MOST_NODES};
 
 /// "Brackets, chooses (with their brackets), ifs and whiles together nest at most 256 deep."
 pub const MOST_NESTED: u32 = 256;
@@ -30,23 +30,24 @@ const SEQUENCE: u32 = 34;
 const IF: u32 = 35;
 const WHILE: u32 = 36;
 
+/// "Text is accepted exactly if it is in this grammar, its table passes 01 and fits the room."
 pub fn read(text: &[u8], room: &mut [u32]) -> Result<Answer, Refusal> {
-    let mut reader = Reader::new(text);
-    let Ok(root) = reader.rule() else {
-        return refuse(17, reader.place);
-    };
-    if reader.nodes.len() > MOST_NODES {
-        return refuse(1, 0);
-    }
-    if root.depth > MOST_DEPTH {
-        return refuse(9, 0);
-    }
-    let words = reader.nodes.as_flattened();
-    if room.len() < words.len() {
+    let table = parse(text)?;
+    check(&table)?;
+    if room.len() < table.len() {
         return refuse(15, 0);
     }
-    room[..words.len()].copy_from_slice(words);
-    Ok(done(0, words.len() as u32))
+    room[..table.len()].copy_from_slice(&table);
+    Ok(done(0, table.len() as u32))
+}
+
+/// The table of a text of the grammar, whatever 01 says to it: it may have any number of nodes, and any depth.
+pub fn parse(text: &[u8]) -> Result<Vec<u32>, Refusal> {
+    let mut reader = Reader::new(text);
+    match reader.rule() {
+        Ok(()) => Ok(reader.nodes.into_flattened()),
+        Err(Stopped) => refuse(17, reader.place),
+    }
 }
 
 /// The nodes of as much of a text as is in the grammar, whole or not.
@@ -63,33 +64,27 @@ struct Reader<'a> {
     nested: u32,
     nodes: Vec<[u32; 4]>,
     /// The statements, but for the last, of all rows that are not yet at their end.
-    rows: Vec<Part>,
-}
-
-/// A part that is read: its node, and the depth of that.
-#[derive(Clone, Copy)]
-struct Part {
-    node: u32,
-    depth: u32,
+    rows: Vec<u32>,
 }
 
 /// No text of the grammar goes on so.
 struct Stopped;
 
-type Read = Result<Part, Stopped>;
+/// The number of the node that was made of a part.
+type Read = Result<u32, Stopped>;
 
 impl<'a> Reader<'a> {
     fn new(text: &'a [u8]) -> Self {
         Reader { text, place: 0, nested: 0, nodes: Vec::with_capacity(MOST_NODES), rows: Vec::new() }
     }
 
-    fn rule(&mut self) -> Read {
+    fn rule(&mut self) -> Result<(), Stopped> {
         self.blanks();
-        let root = self.row()?;
+        self.row()?;
         if self.place < self.text.len() {
             return Err(Stopped);
         }
-        Ok(root)
+        Ok(())
     }
 
     /// "One or more statements separated by ";"." The row groups to the right, so that its last statement is joined first.
@@ -126,7 +121,7 @@ impl<'a> Reader<'a> {
         self.bytes(b":=")?;
         self.blanks();
         let value = self.arithmetic()?;
-        Ok(self.frame([ASSIGN, variable, value.node, 0], value.depth + 1))
+        Ok(self.node(ASSIGN, [variable, value]))
     }
 
     /// What stands between `if` and `end`, the test too, is inside it.
@@ -188,11 +183,11 @@ impl<'a> Reader<'a> {
         match self.peek() {
             Some(b'0'..=b'9') => {
                 let number = self.number(MOST_NUMBER)?;
-                Ok(self.frame([NUMBER, number, 0, 0], 1))
+                Ok(self.node(NUMBER, [number]))
             }
             Some(b'v') => {
                 let variable = self.variable()?;
-                Ok(self.frame([VARIABLE, variable, 0, 0], 1))
+                Ok(self.node(VARIABLE, [variable]))
             }
             Some(b'(') => {
                 self.open()?;
@@ -378,20 +373,11 @@ impl<'a> Reader<'a> {
         self.nested -= 1;
     }
 
-    /// "Nodes are written children first."
-    fn node<const N: usize>(&mut self, kind: u32, children: [Part; N]) -> Part {
+    /// "Nodes are written children first": those that the words name are there.
+    fn node<const N: usize>(&mut self, kind: u32, words: [u32; N]) -> u32 {
         let mut frame = [kind, 0, 0, 0];
-        let mut deepest = 0;
-        for (word, child) in frame[1..].iter_mut().zip(children) {
-            *word = child.node;
-            deepest = child.depth.max(deepest);
-        }
-        self.frame(frame, deepest + 1)
-    }
-
-    fn frame(&mut self, frame: [u32; 4], depth: u32) -> Part {
-        let node = self.nodes.len() as u32;
+        frame[1..=N].copy_from_slice(&words);
         self.nodes.push(frame);
-        Part { node, depth }
+        self.nodes.len() as u32 - 1
     }
 }
