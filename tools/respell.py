@@ -33,7 +33,7 @@ HERE = {
 NAME = r"[^\s(){}\[\];,.:λ→×⊎≡\"`]+"
 TOKEN = re.compile(r"(?<![^\s(){}\[\];,.:λ→×⊎≡\"`])" + NAME)
 SIGNATURE = re.compile(r"^(\s*)((?:abbrev |unfoldable |pub |private |infix[lr]? \d+ )*)(" + NAME + r"(?: " + NAME + r")*) :( |$)")
-LIBRARY = re.compile(r"^\s*(?:ghost )?use ([^\s{;]+)(?:\.\{([^}]*)\})?")
+LIBRARY = re.compile(r"^\s*(?:ghost )?use ([^\s{;]+?)\.\{([^}]*)\}")
 
 
 def snake(name):

@@ -8,7 +8,7 @@ use native.Mathlib.Numerals.{add-one}
 use lib.Dec.{eqb, ltb, lit<}
 use lib.ListN.{length, get_or, drop, get_or-eq_default}
 use lib.Seq.{get_or-drop, get_or-take, drop-cons}
-use borrow.Author.Tests.{eqb-true, eq-eqb, ne_eqb, ltb-true, ltb-false, lt-ltb, le-ltb, lt-leb, le-leb, not_true}
+use borrow.Author.Tests.{eqb-true, eq-eqb, ne_eqb, ltb-true, ltb-false, lt-ltb, le-ltb, lt-leb, le-leb, not-true}
 use Rattle.rules.specs.Lists.{every}
 use Rattle.rules.proofs.ListLaws.{and_true, every_true}
 use Rattle.grammar.specs.Token.{number, variable, mark, skip}
@@ -228,7 +228,7 @@ unfolding word_fits
 word_fits_lem c k e =
     let t = and_true (ltb k 27) (ltb (kind_in c) 27 && not (eqb k 24)) e in
     let u = and_true (ltb (kind_in c) 27) (not (eqb k 24)) t.1 in
-    (ltb-true _ _ t.0, ltb-true _ _ u.0, not_true _ u.1)
+    (ltb-true _ _ t.0, ltb-true _ _ u.0, not-true _ u.1)
 
 lies_word : {text : List ℕ} {at c k : ℕ} {bs : List ℕ} → ClassAt text at c → Word c k bs → Spelled text (at + 1) bs
     → Lies text at k (at + suc (length bs))
@@ -272,7 +272,7 @@ unfolding alone_fits
 alone c e h =
     let t = and_true _ _ (rw (le-ltb c 64 h) at e) in
     let u = and_true _ _ t.1 in
-    (not_true _ t.0, ltb-true _ _ u.0, eqb-true _ _ u.1)
+    (not-true _ t.0, ltb-true _ _ u.0, eqb-true _ _ u.1)
 
 kind_alone : (c : ℕ) → 64 ≤ c → kind_in c ≡ c - 64
 unfolding kind_in

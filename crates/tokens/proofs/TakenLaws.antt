@@ -6,7 +6,7 @@ use Prim.Native.Nat.{ℕ, zero, suc, ◌-◌, ◌<◌, ◌≤◌}
 use native.Mathlib.Omega.{arith}
 use lib.Dec.{eqb, ltb}
 use lib.ListN.{get_or}
-use borrow.Author.Tests.{ne_eqb, ltb-true, ltb-false, lt-ltb, le-ltb, not_true}
+use borrow.Author.Tests.{ne_eqb, ltb-true, ltb-false, lt-ltb, le-ltb, not-true}
 use Rattle.grammar.specs.Token.{Token, rank}
 use Rattle.grammar.specs.Written.{kind_number, operator_number, relation_number}
 use Rattle.tokens.specs.declared.moves.Standing.{Standing}
@@ -87,7 +87,7 @@ module _ {text : List ℕ} {at : ℕ} {st : List ℕ} {s : Standing} {r : Found}
       let b = t.3 in
       let k = t.1 in
       let m : may (standing st s) r.kind ≡ true = rw (← k) b.allowed in
-      let z : eqb r.act 0 ≡ false = not_true _ (may_is st s _ _ _ l ∙ m) in
+      let z : eqb r.act 0 ≡ false = not-true _ (may_is st s _ _ _ l ∙ m) in
       record { token = λ y. (t.0, k, n.is t.0 k t.2, b, l, z); stuck = λ y. absurd (omega arith) }
 
 -- ---- a number or a variable where a factor is wanted

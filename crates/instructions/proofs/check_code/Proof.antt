@@ -7,7 +7,7 @@ use lib.Dec.{eqb}
 use lib.ListN.{length}
 use borrow.Author.Count.{below_more}
 use borrow.Author.Rules.{rules}
-use borrow.Author.Tests.{eqb-true, eqb-false, leb-true, not_true, not-false}
+use borrow.Author.Tests.{eqb-true, eqb-false, leb-true, not-true, not-false}
 use Rattle.rules.specs.Refusal.{fine}
 use Rattle.rules.specs.CodeWords.{width, instructions, whole_code, code_fault}
 use Rattle.rules.proofs.ListLaws.{and_true}
@@ -39,7 +39,7 @@ refused-requires c κs = search rules
 
 returns : tie.Need-returns invariant-loop decreases-loop
 unfolding answer whole_code
-returns c = c.refused.ensures ∙ sym (ap answer (refused_count _ _ (not_true _ c.before.if1.true)))
+returns c = c.refused.ensures ∙ sym (ap answer (refused_count _ _ (not-true _ c.before.if1.true)))
 
 loop_holds : tie.Need-loop-init invariant-loop decreases-loop
 loop_holds c = (omega arith, λ j h. absurd (omega arith))
@@ -57,7 +57,7 @@ returns_2 : tie.Need-returns-2 invariant-loop decreases-loop
 unfolding answer
 returns_2 c =
     let test = c.before in let turn = test.before.before.before in
-    let fault = eqb-false _ fine (sym test.before.obeys.ensures ∙ not_true _ test.if2.true) in
+    let fault = eqb-false _ fine (sym test.before.obeys.ensures ∙ not-true _ test.if2.true) in
     c.refused2.ensures
     ∙ sym (ap answer (refused_at _ _ (is_whole turn.before) _ test.before.before.loop-test.true fault turn.loop.invariant.1))
 

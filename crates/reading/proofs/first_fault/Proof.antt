@@ -4,7 +4,7 @@ use Prim.Native.Nat.{◌-◌}
 use native.Mathlib.Omega.{arith}
 use native.Mathlib.Nat.{mul-zero}
 use native.Mathlib.Numerals.{add-one}
-use borrow.Author.Tests.{not_true, not-false}
+use borrow.Author.Tests.{not-true, not-false}
 use Rattle.rules.specs.Refusal.{fine}
 use Rattle.rules.specs.Text.{line_fault}
 use Rattle.rules.proofs.ListLaws.{one_more}
@@ -50,7 +50,7 @@ returns_3 : tie.Need-returns-3 invariant-loop decreases-loop
 returns_3 c =
     let start = c.before.before.before.before.before.before.before in
     let so = c.before.before.before.before.before.loop.invariant in
-    let bad = sym c.before.is-line.ensures ∙ not_true _ c.if3.true in
+    let bad = sym c.before.is-line.ensures ∙ not-true _ c.if3.true in
     first_fault _ _ _ so.allowed so.fine_before (omega (arith, start.requires))
     (fault_bytes _ _ _ (rw so.begins at bad))
 

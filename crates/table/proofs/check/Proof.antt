@@ -10,7 +10,7 @@ use Rattle.table.specs.inside.Steps.{slot_code, row_code, Sound}
 use Rattle.table.proofs.RowLaws.{rows_right}
 use Rattle.table.proofs.CheckLaws.{refused_1, refused_2_to_6, sound_nodes, checking_sound}
 use borrow.Author.Rules.{rules}
-use borrow.Author.Tests.{not_true, not-false}
+use borrow.Author.Tests.{not-true, not-false}
 use Rattle.table.proofs.check.Statement.{statement}
 use Rattle.table.proofs.check.Tie as tie
 
@@ -31,7 +31,7 @@ returns : tie.Need-returns
 unfolding whole_table
 returns c =
     let test = c.before in
-    c.refused.ensures ∙ sym (refused_1 _ (sym test.before.whole.ensures ∙ not_true _ test.if1.true))
+    c.refused.ensures ∙ sym (refused_1 _ (sym test.before.whole.ensures ∙ not-true _ test.if1.true))
 
 walk-requires : tie.Need-walk-requires
 unfolding every kind_of fetch row_of row_code slot_code

@@ -2,7 +2,7 @@
 use mathlib.Core.Path.{◌≡◌}
 use mathlib.Core.List.{List}
 use Prim.Native.Nat.{ℕ}
-use borrow.Author.Tests.{not_true, not-false}
+use borrow.Author.Tests.{not-true, not-false}
 use Rattle.rules.specs.Table.{row_at}
 use Rattle.table.specs.inside.Steps.{row_code}
 use Rattle.table.proofs.WordLaws.{slot_p, slot_q, slot_r, unknown_walked, wrong_p, wrong_q, walked}
@@ -46,7 +46,7 @@ returns_2 c =
     let first = c.before in
     let test = first.before.before.before.before in
     let p = first.word.ensures _ (slot_p (tab test) (num test) _ (read test)) in
-    wrong_p _ _ _ (read test) test.if1.false _ first.word.result _ _ p (not_true _ c.if2.true)
+    wrong_p _ _ _ (read test) test.if1.false _ first.word.result _ _ p (not-true _ c.if2.true)
 
 add-word-2 : tie.Need-overflow-add-word-2
 add-word-2 c = search rules
@@ -67,7 +67,7 @@ returns_3 c =
     let test = first.before.before.before.before in
     let p = first.word.ensures _ (slot_p (tab test) (num test) _ (read test)) in
     let q = second.word2.ensures _ (slot_q (tab test) (num test) _ (read test)) in
-    wrong_q _ _ _ (read test) test.if1.false _ _ _ _ p _ q (not_true _ c.if3.true)
+    wrong_q _ _ _ (read test) test.if1.false _ _ _ _ p _ q (not-true _ c.if3.true)
 
 add-word-3 : tie.Need-overflow-add-word-3
 add-word-3 c = search rules

@@ -5,7 +5,7 @@ use Prim.Native.Nat.{ℕ, ◌≤◌, ◌<◌, ◌-◌}
 use native.Mathlib.Omega.{arith}
 use borrow.Author.Rules.{rules}
 use borrow.Author.Count.{below_more}
-use borrow.Author.Tests.{eqb-true, eqb-false, not_true, not-false}
+use borrow.Author.Tests.{eqb-true, eqb-false, not-true, not-false}
 use Rattle.rules.specs.Lists.{joined}
 use Rattle.rules.specs.Refusal.{fine}
 use Rattle.rules.specs.Table.{nodes, node_fault, children}
@@ -50,7 +50,7 @@ returns c =
     let t : List ℕ = here.before.before.args.t.now in
     let n : ℕ = here.loop.n in
     let inside : n < nodes t = search rules in
-    let wrong = sym seen.node.ensures.right ∙ not_true _ told.before.if1.true in
+    let wrong = sym seen.node.ensures.right ∙ not-true _ told.before.if1.true in
     let faulty : node_fault t n ≡ fine → ⊥ = eqb-false (node_fault t n) fine wrong in
     let found = some_refuse_lowest (node_fault t) (nodes t) n inside faulty here.loop.invariant.1 in
     record { answered = c.refused.ensures ∙ rw (told.node-fault.ensures, found); marked = λ s. absurd (faulty (s n inside)) }

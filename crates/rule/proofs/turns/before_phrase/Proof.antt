@@ -1,7 +1,7 @@
 -- `rule::turns::before_phrase` meets its contract.
 use mathlib.Core.Path.{refl}
 use native.Mathlib.Omega.{arith}
-use borrow.Author.Tests.{not_true}
+use borrow.Author.Tests.{not-true}
 use borrow.Author.Rules.{rules}
 use Rattle.tokens.proofs.TakenLaws.{operand_taken}
 use Rattle.rule.proofs.PhraseLaws.{begin_acts, begin_turned}
@@ -48,7 +48,7 @@ make-requires c κs =
     let word-goes-on = c.before.before.before.before.before.word-goes-on in
     let if4 = c.before.before.before.before.if4 in
     let k = operand.ensures.1 if3.true in
-    let T = operand_taken {r = record { kind = _; number = _; end = _; act = _; top = _ }} if2.true operand.ensures.0 k if3.true word-goes-on.ensures (not_true _ if4.true) (search rules) refl refl refl refl refl in
+    let T = operand_taken {r = record { kind = _; number = _; end = _; act = _; top = _ }} if2.true operand.ensures.0 k if3.true word-goes-on.ensures (not-true _ if4.true) (search rules) refl refl refl refl refl in
     operand_makes k if3.true
     (begin_performs start.requires.4 start.requires.5 T (let l = if1.false in omega arith) if3.true {p = record { act = _; top = _ }} refl refl).making
 
@@ -63,7 +63,7 @@ returns_2 c =
     let start = c.before.before.before.before.before.before.before.before.before.before.before.before.before.before.before.before.before.before in
     let k = c.before.before.before.before.before.before.before.before.before.before.before.operand.ensures.1 c.before.before.before.before.before.before.before.before.before.if3.true in
     begin_turned start.requires.4 start.requires.5 (operand_taken {r = record { kind = _; number = _; end = _; act = _; top = _ }} c.before.before.before.before.before.before.before.before.before.before.before.before.if2.true c.before.before.before.before.before.before.before.before.before.before.before.operand.ensures.0 (c.before.before.before.before.before.before.before.before.before.before.before.operand.ensures.1 c.before.before.before.before.before.before.before.before.before.if3.true) c.before.before.before.before.before.before.before.before.before.if3.true
-    c.before.before.before.before.before.before.before.before.word-goes-on.ensures (not_true _ c.before.before.before.before.before.before.before.if4.true) (search rules) refl refl refl refl refl) (let l = c.before.before.before.before.before.before.before.before.before.before.before.before.before.before.before.before.if1.false in omega arith) c.before.before.before.before.before.before.before.before.before.if3.true refl refl refl refl
+    c.before.before.before.before.before.before.before.before.word-goes-on.ensures (not-true _ c.before.before.before.before.before.before.before.if4.true) (search rules) refl refl refl refl refl) (let l = c.before.before.before.before.before.before.before.before.before.before.before.before.before.before.before.before.if1.false in omega arith) c.before.before.before.before.before.before.before.before.before.if3.true refl refl refl refl
     (moved (operand_made k c.before.before.before.before.before.before.before.before.before.if3.true c.before.before.make.ensures) (operand_entered k c.before.before.before.before.before.before.before.before.before.if3.true c.before.stay.ensures) c.taken.ensures)
 
 token-wanted-requires : tie.Need-token-wanted-requires

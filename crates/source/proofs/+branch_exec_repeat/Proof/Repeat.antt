@@ -4,7 +4,7 @@ use mathlib.Core.Path.{◌≡◌, refl, ap, ◌∙◌}
 use Prim.Native.Nat.{ℕ, ◌*◌, ◌-◌, ◌<◌, ◌≤◌}
 use lib.Dec.{lit<}
 use borrow.Author.Rules.{rules}
-use borrow.Author.Tests.{not_true, not-false}
+use borrow.Author.Tests.{not-true, not-false}
 use Rattle.rules.specs.Table.{Kind, row_of, statement as statements}
 use Rattle.evaluate.specs.Ready.{Ready}
 use Rattle.source.specs.inside.Ran.{runs}
@@ -59,7 +59,7 @@ module _ (m : ℕ) where
       let s = l.before.before.before in
       since l.loop.invariant.2
       (loop_ends (as_while s) (omega (linear, c.before.before.before.loop-test.true))
-      (tested s.args.t.now.now l.loop.s c.before.boolean.ensures l.before.before.place.ensures (not_true _ c.if1.true)))
+      (tested s.args.t.now.now l.loop.s c.before.boolean.ensures l.before.before.place.ensures (not-true _ c.if1.true)))
 
   pub sub_exec : repeat-lts.Need-overflow-sub-exec (repeat_calls m) (repeat_at m) repeat.Post Inv_loop μ_loop
   sub_exec c = omega linear

@@ -1,6 +1,6 @@
 -- `tokens::scan::consider` meets its contract.
 use mathlib.Core.Path.{sym, ◌∙◌}
-use borrow.Author.Tests.{not_true, not-false}
+use borrow.Author.Tests.{not-true, not-false}
 use borrow.Author.Rules.{rules}
 use Rattle.tokens.proofs.Entries.{spelled_length}
 use Rattle.tokens.proofs.BestLaws.{best_nothing, best_shorter, best_refused, best_whole, best_further, best_level}
@@ -29,7 +29,7 @@ returns_3 c =
     let before = c.before.before.before.before.before.before in
     let allowed = c.before.allowed in
     let start = before in
-    record { best = best_refused _ _ _ _ _ start.requires.2.best (sym allowed.ensures ∙ not_true _ c.if3.true) }
+    record { best = best_refused _ _ _ _ _ start.requires.2.best (sym allowed.ensures ∙ not-true _ c.if3.true) }
 
 length-of-requires : tie.Need-length-of-requires
 length-of-requires c κs = search rules

@@ -1,5 +1,5 @@
 -- `tokens::scan::scan_number` meets its contract.
-use borrow.Author.Tests.{not_true, not-false}
+use borrow.Author.Tests.{not-true, not-false}
 use borrow.Author.Rules.{rules}
 use Rattle.tokens.proofs.CodeLaws.{scanned_stuck, no_number, number_goes_on, scanned_number}
 use Rattle.tokens.proofs.scan.scan_number.Statement.{statement}
@@ -17,7 +17,7 @@ returns c =
     let allowed = c.before.before.allowed in
     let if1 = c.before.if1 in
     let start = before in
-    scanned_stuck c.stuck.ensures (no_number _ _ _ start.requires.3 allowed.ensures (not_true _ if1.true))
+    scanned_stuck c.stuck.ensures (no_number _ _ _ start.requires.3 allowed.ensures (not-true _ if1.true))
 
 scan-digits-requires : tie.Need-scan-digits-requires
 scan-digits-requires c κs = search rules

@@ -1,6 +1,6 @@
 -- `tokens::scan::scan_variable` meets its contract.
 use mathlib.Core.Path.{sym, ◌∙◌}
-use borrow.Author.Tests.{not_true, not-false}
+use borrow.Author.Tests.{not-true, not-false}
 use borrow.Author.Rules.{rules}
 use Rattle.tokens.proofs.CodeLaws.{scanned_stuck, no_variable, v_ends, v_alone, variable_goes_on, scanned_variable}
 use Rattle.tokens.proofs.scan.scan_variable.Statement.{statement}
@@ -18,7 +18,7 @@ returns c =
     let allowed = c.before.before.allowed in
     let if1 = c.before.if1 in
     let start = before in
-    scanned_stuck c.stuck.ensures (no_variable _ _ _ start.requires.3 allowed.ensures (not_true _ if1.true))
+    scanned_stuck c.stuck.ensures (no_variable _ _ _ start.requires.3 allowed.ensures (not-true _ if1.true))
 
 add-next : tie.Need-overflow-add-next
 add-next c = search rules
@@ -54,7 +54,7 @@ returns_3 c =
     let start = before in
     let may = not-false _ if1.false in
     scanned_stuck c.stuck3.ensures
-    (v_alone _ _ _ start.requires.3 allowed.ensures may is_digit.ensures (not_true _ if3.true))
+    (v_alone _ _ _ start.requires.3 allowed.ensures may is_digit.ensures (not-true _ if3.true))
 
 scan-digits-requires : tie.Need-scan-digits-requires
 scan-digits-requires c κs =
