@@ -1,5 +1,7 @@
 // The bits of a 32-bit word: one set, one asked for. A bit's number is taken modulo 32, so that bit k of a row of words is bit k of
 // its word k / 32.
+#![tactic(auto)]
+
 ghost use Rattle.std.specs.Prelude.{◌≡◌, ◌%◌, eqb};
 ghost use Rattle.bits.specs.Bit.{bit, with_bit};
 

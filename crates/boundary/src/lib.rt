@@ -1,4 +1,6 @@
 // The C boundary: each public function under a plain name, its answer told in eight words. include/rillgiggle.h has the calls for C.
+#![tactic(auto)]
+
 ghost use Rattle.std.specs.Prelude.{◌≡◌};
 ghost use Rattle.rules.specs.Answer.{eight, ended, refused, checked_words, compiled_words, source_run_words, code_run_words, text_words};
 ghost use Rattle.depot.specs.Depot.{lent};

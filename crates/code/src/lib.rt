@@ -1,4 +1,6 @@
 // The code run: the steps of Fig. 1 within fuel, on a table, code, start label and store that are checked first.
+#![tactic(auto)]
+
 mod labels;
 
 ghost use Rattle.std.specs.Prelude.{◌≡◌};

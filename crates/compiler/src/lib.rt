@@ -1,4 +1,6 @@
 // The compiler: the code of an accepted table, written to the front of a lent room.
+#![tactic(auto)]
+
 ghost use Rattle.std.specs.Prelude.{◌≡◌, cond, ◌+◌, ◌*◌, ◌≤◌, eqb, length};
 ghost use Rattle.rules.specs.declared.Compiled.{Compiled};
 ghost use Rattle.rules.specs.Answer.{ended};

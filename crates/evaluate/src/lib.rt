@@ -1,6 +1,8 @@
 // The evaluators: the value or the truth of an expression node of an accepted table, on a store. They are for the runs alone, and ask
 // (`requires`) what a run has checked: a caller has to prove it.
 // They take the table by a reference to its slice: a call then passes one pointer on and copies no pair of pointer and length.
+#![tactic(auto)]
+
 ghost use Rattle.std.specs.Prelude.{◌≡◌, ◌≤◌};
 ghost use Rattle.rules.specs.Expression.{apply as applied, holds as held};
 ghost use Rattle.rules.specs.Table.{meaning, arithmetic, boolean as booleans};

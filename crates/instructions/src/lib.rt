@@ -1,4 +1,6 @@
 // The check of jump code over a table, and all that is checked before such code is run.
+#![tactic(auto)]
+
 ghost use Rattle.std.specs.Prelude.{◌≡◌, not, ◌&&◌, ◌<◌, eqb, ltb, leb};
 ghost use Rattle.rules.specs.declared.Checked.{Checked};
 ghost use Rattle.rules.specs.Refusal.{fine, refusal, refuse};

@@ -1,5 +1,7 @@
 // How a run reads the table and the code that it is lent, and keeps the store. They are parts of the runs and of the check of code, and ask (`requires`) what those know:
 // a caller has to prove it.
+#![tactic(auto)]
+
 ghost use Rattle.std.specs.Prelude.{◌≡◌, ◌+◌, ◌*◌, ◌<◌, length};
 ghost use Rattle.rules.specs.Table.{field};
 ghost use Rattle.rules.specs.CodeWords.{width, part as part_of};

@@ -1,4 +1,6 @@
 // The listing program's work: table text in, the text of its code out, or the line of a refusal.
+#![tactic(auto)]
+
 ghost use Rattle.std.specs.Prelude.{◌*◌, ◌≤◌, length, take};
 ghost use Rattle.rules.specs.CodeWords.{width};
 ghost use Rattle.rules.specs.Text.{text_of};

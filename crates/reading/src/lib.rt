@@ -1,4 +1,6 @@
 // Hexadecimal text read into words, over the number w of words in a frame: a pass over the lines that looks for a fault, then one that writes the words.
+#![tactic(auto)]
+
 ghost use Rattle.std.specs.Prelude.{◌≡◌, true, ◌+◌, ◌*◌, ◌<◌, ◌≤◌, length, get_or, take, drop};
 ghost use Rattle.std.proofs.lemmas.List.Edits.{sets};
 ghost use Rattle.rules.specs.Text.{is_digit, number_of, lines, words_of_text};

@@ -1,4 +1,6 @@
 // Rules as planners type them (02, A4), read into their table. One loop goes over the bytes; what is open is kept in arrays.
+#![tactic(auto)]
+
 mod nodes;
 mod turns;
 

@@ -1,5 +1,6 @@
 // What the crates share: the words of an instruction, and the answers of the calls. What each call answers, and when, is said in specs/ of
 // the call's crate.
+#![tactic(auto)]
 
 // The words of an instruction: `width` of specs/CodeWords.
 pub const WIDTH: usize = 4;

@@ -1,4 +1,6 @@
 // The source run: the statements of an accepted table, on a store, within fuel.
+#![tactic(auto)]
+
 ghost use Rattle.std.specs.Prelude.{◌≡◌, ◌-◌, ◌<◌};
 ghost use Rattle.rules.specs.Table.{Kind, statement};
 ghost use Rattle.rules.specs.Answer.{ended};

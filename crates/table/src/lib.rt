@@ -1,4 +1,6 @@
 // The table check: refusals 1 to 9 of a table of words.
+#![tactic(auto)]
+
 mod levels;
 mod rows;
 mod sets;

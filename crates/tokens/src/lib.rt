@@ -1,5 +1,7 @@
 // One token of a text, found where the machine on numbers stands: its kind and its number, where it ends, and the move that it
 // makes; or the place where nothing leads on.
+#![tactic(auto)]
+
 mod digits;
 pub mod moves;
 mod quick;

@@ -1,6 +1,8 @@
 // The program `typed`: a rule as a planner types it from standard input, its table text to standard output, which `listing` lists. It reads
 // up to 1,048,576 bytes: more than 1,024 nodes take, each in as many brackets as may be, without needless blanks. Of a longer text it says
 // only that it is longer, since a beginning does not tell what the whole is.
+#![tactic(auto)]
+
 ghost use Rattle.std.specs.Prelude.{◌≡◌, length};
 
 fn room() -> [u8; 1048577]

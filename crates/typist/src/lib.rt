@@ -1,4 +1,6 @@
 // The work of the program `typed`: a rule as a planner types it in, the text of its table out, or the line of a refusal.
+#![tactic(auto)]
+
 ghost use Rattle.std.specs.Prelude.{take};
 ghost use Rattle.rules.specs.Text.{text_of};
 ghost use Rattle.lister.specs.Listing.{Listed};

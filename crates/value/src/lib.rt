@@ -1,4 +1,6 @@
 // Signed 32-bit values that wrap (document 01, "Values").
+#![tactic(auto)]
+
 ghost use Rattle.std.specs.Prelude.{◌≡◌, ◌*◌, ◌%◌, pos, ◌<ℤ◌};
 ghost use Rattle.rules.specs.Value.{word, value, sum, difference, product, quotient, remainder};
 

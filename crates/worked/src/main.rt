@@ -1,5 +1,7 @@
 // The worked runs of document 01 that are not proved, and vectors of our own: each is run, and its answer written. They are data, in the
 // file stdin, whose head says how they are written: so a case costs no proof.
+#![tactic(auto)]
+
 mod calls;
 mod lines;
 mod numbers;

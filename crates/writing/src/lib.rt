@@ -1,4 +1,6 @@
 // Words written as hexadecimal text, over the number w of words in a frame (four, and two in the line of a refusal): two digits at a time, from a table.
+#![tactic(auto)]
+
 ghost use Rattle.std.specs.Prelude.{◌≡◌, ◌+◌, ◌*◌, ◌<◌, ◌≤◌, length};
 ghost use Rattle.std.proofs.lemmas.List.Edits.{sets};
 ghost use Rattle.rules.specs.Text.{digits_of, text_of};
