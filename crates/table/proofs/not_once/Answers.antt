@@ -4,14 +4,10 @@ use Prim.Native.Nat.{ℕ, ◌-◌}
 use lib.Bits.{bit_xor, xor_lt}
 use borrow.Author.Rules.{rules}
 use Rattle.bits.proofs.BitLaws.{bit_of_xor, bit_of_not}
-use Rattle.table.proofs.not_once.Statement.{statement}
-use Rattle.table.proofs.not_once.Tie as tie
+use Rattle.table.proofs.not_once.Goals as goal
 
-returns : tie.Need-returns
+pub returns : goal.returns
 returns c = λ j h.
     let a = c.args.once in
     let b = c.args.again in
     bit_of_not 32 (bit_xor a b) j (xor_lt 32 a b (search rules) (search rules)) h ∙ ap (λ (x : ℕ). 1 - x) (bit_of_xor a b j)
-
-pub not_once_spec : {M : Type 1} → statement M
-not_once_spec = tie.close (tie.spec returns)
