@@ -22,7 +22,6 @@ use Rattle.grammar.specs.machine.Reader.{next_term, first_factor, next_factor, w
 use Rattle.grammar.specs.machine.Reader.{want_part, want_test, want_factor, want_open, have, step}
 use Rattle.grammar.specs.machine.Bytes.{Pending, letters, digits, letter_v, index, Spot, spot, begins, pick}
 use Rattle.grammar.specs.machine.Bytes.{longer, allows, some_begins, begin, grow, shut, fresh, byte_step}
-use Rattle.grammar.proofs.tokens.Choices.{nothing}
 use Rattle.grammar.proofs.tokens.Finish.{closing, finish, finishes}
 use Rattle.grammar.proofs.bytes.Fixed.{begins_split, any_fixed, all_fixed}
 use Rattle.grammar.proofs.bytes.InRange.{AllIn, none_in, more_in}

@@ -16,7 +16,6 @@ use Rattle.grammar.specs.machine.Reader.{State, step, next}
 use Rattle.grammar.specs.machine.Bytes.{Pending, letters, digits, letter_v, index, Spot, spot, fixed, begins}
 use Rattle.grammar.specs.machine.Bytes.{longer, allows, some_begins, begin, grow, shut_token, shut, go_on}
 use Rattle.grammar.specs.machine.Bytes.{byte_step}
-use Rattle.grammar.proofs.tokens.Choices.{nothing}
 use Rattle.grammar.proofs.bytes.Decimal.{small, big}
 use Rattle.grammar.proofs.bytes.Fixed.{Fixed, a_mark, a_sign, a_relation, a_truth, split_begins, any_at}
 use Rattle.grammar.proofs.bytes.Fixed.{placed, found, begun, goes_no_further}

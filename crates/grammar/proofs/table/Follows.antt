@@ -35,6 +35,7 @@ module _ (t : List ℕ) where
   rule_unfinished : {s : Stm} {r : Rule} {σ σ' : Store} {n : ℕ}
       → Says t s r → While.Unfinished (meaning t) s σ n σ' → Unfinished r σ n σ'
   unfolding meaning
+  rule_unfinished says_skip u = elim u [ ]
   rule_unfinished (says_assign e) While.at_assign = at_assign
   rule_unfinished (says_seq x y) (While.in_first u) = in_first (rule_unfinished x u)
   rule_unfinished (says_seq x y) (While.in_second d u) = in_second (rule_evaluates x d) (rule_unfinished y u)
@@ -72,6 +73,7 @@ module _ (t : List ℕ) where
   statement_unfinished : {s : Stm} {r : Rule} {σ σ' : Store} {n : ℕ}
       → Says t s r → Unfinished r σ n σ' → While.Unfinished (meaning t) s σ n σ'
   unfolding meaning
+  statement_unfinished says_skip u = elim u [ ]
   statement_unfinished (says_assign e) at_assign = While.at_assign
   statement_unfinished (says_seq x y) (in_first u) = While.in_first (statement_unfinished x u)
   statement_unfinished (says_seq x y) (in_second d u) =

@@ -5,8 +5,8 @@ use Prim.Native.Nat.{ℕ, ◌+◌, ◌-◌, ◌≤◌, ◌<◌}
 use native.Mathlib.Omega.{arith}
 use Rattle.rules.specs.Expression.{Arith, Boole}
 use Rattle.rules.specs.While.{Stm}
-use Rattle.rules.specs.Table.{Kind, number, variable, choose, negation, both, skip, assign, if, while, binary, truth}
-use Rattle.rules.specs.Table.{compare, kind_of, root, arith_of, boole_of, stm_of, tree_by, tree_at, program}
+use Rattle.rules.specs.Table.{Kind}
+use Rattle.rules.specs.Table.{kind_of, root, arith_of, boole_of, stm_of, tree_by, tree_at, program}
 use Rattle.rules.proofs.TableLaws.{NodeFits, NodeAs, node_as, stm_as}
 use Rattle.grammar.specs.Rule.{Rule}
 use Rattle.grammar.specs.Layout.{InGrammar}

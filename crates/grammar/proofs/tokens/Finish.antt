@@ -8,7 +8,7 @@ use lib.IntN.{pos}
 use Rattle.rules.specs.Expression.{Arith, Boole, equal}
 use Rattle.grammar.specs.Rule.{Rule}
 use Rattle.grammar.specs.Token.{Token, number, relation, truth, mark}
-use Rattle.grammar.specs.Token.{skip, if, then, else, end, while, does, choose}
+use Rattle.grammar.specs.Token.{skip, then, else, end, does}
 use Rattle.grammar.specs.Token.{becomes, comma, round, round_end, square_end}
 use Rattle.grammar.specs.machine.Reader.{Phrase, Value, State, Open, whole, follow, then_branch, else_branch}
 use Rattle.grammar.specs.machine.Reader.{loop_body, in_row, if_test, while_test, squared, choose_test}

@@ -199,7 +199,7 @@ module _ {limit : ℕ} (w : List Token) where
   run_at : {S : State limit} {r : Rule} (us : List Token) → At w S us → Means S us r → Row limit w [] r
   unfolding run reach next
   run_at [] a m = ends_at a m.is
-  run_at (t ∷ us) a m = let k = took m in run_at us (step_at t a k.1.is) k.2
+  run_at {S = S} {r = r} (t ∷ us) a m = let k = took m in run_at {S = k.0} {r = r} us (step_at t a k.1.is) k.2
 
 pub row_read : {limit : ℕ} {w : List Token} {r : Rule} → Means (want_row limit whole) w r → Row limit w [] r
 row_read {w = w} m = run_at w w (at_want_statement (at_row at_whole)) m
