@@ -12,7 +12,7 @@ use Rattle.grammar.specs.Token.{Token, number, variable, mark, skip}
 use Rattle.grammar.specs.Spelling.{is_digit, in_word}
 use Rattle.grammar.specs.machine.Bytes.{longer, fixed}
 use Rattle.grammar.proofs.bytes.Pendings.{longer_is, digit_is}
-use Rattle.tokens.specs.Shape.{Shape, found, move_of, may}
+use Rattle.tokens.specs.Shape.{Shape, move_of, may}
 use Rattle.tokens.specs.Stand.{kind_of}
 use Rattle.tokens.specs.Arrays.{Located, standing}
 use Rattle.tokens.specs.declared.moves.Standing.{Standing}

@@ -12,7 +12,7 @@ pub struct Place {
 }
 
 // A shape whose frames are the first `top` numbers of an array.
-#[derive(Drop)]
+#[derive(Clone, Copy)]
 pub struct Standing {
     pub mode: u32,
     pub left: u32,

@@ -1,0 +1,8 @@
+-- `tokens::digits::is_digit` meets its contract.
+use mathlib.Core.Path.{refl}
+use Rattle.grammar.specs.Spelling.{is_digit}
+use Rattle.tokens.proofs.digits.is_digit.Goals as goal
+
+pub returns : goal.returns
+unfolding is_digit
+returns c = refl
