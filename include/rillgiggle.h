@@ -1,5 +1,5 @@
 /* Rillgiggle: break rules read, checked, run, compiled to jump code, and that code run. Link target/staticlib/libboundary.a
- * (rt staticlib boundary; x86-64 Linux). C99 or later, C++ too.
+ * (bash tools/build; x86-64 Linux). C99 or later, C++ too.
  *
  * Every call ends, checks its input itself, and writes all eight words of `answer`. A refusal alters nothing else;
  * success alters only the words or bytes that it writes, from the front of `room` on, and a run its stores. No call

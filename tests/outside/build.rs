@@ -15,7 +15,7 @@ fn main() {
     }
 }
 
-/// `rt staticlib boundary` writes the library to target/staticlib of the repository.
+/// `bash tools/build` writes the library to target/staticlib of the repository.
 fn link_library() {
     println!("cargo::rerun-if-env-changed=RILL_STATICLIB_DIR");
     let folder = match env::var_os("RILL_STATICLIB_DIR") {
@@ -31,7 +31,7 @@ fn link_library() {
             println!("cargo::rustc-link-lib=static=boundary");
         }
         Err(_) => println!(
-            "cargo::error={} is missing: make it with `rt staticlib boundary`, or name its folder in \
+            "cargo::error={} is missing: make it with `bash tools/build`, or name its folder in \
              RILL_STATICLIB_DIR, or build with --features self-test",
             library.display()
         ),

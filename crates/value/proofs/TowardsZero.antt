@@ -1,6 +1,6 @@
 -- The machine's own quotient drops its fraction towards zero. Between like signs that is down; between unlike signs it is up, and the quotient
 -- rounded down is one less than the machine's quotient of the dividend one nearer to zero.
-use Rattle.std.proofs.Common.{◌≡◌, ℕ, zero, suc, ◌+◌, ◌-◌, ◌/◌, ◌<◌, ◌≤◌, Bool, true, false, cond, ltb, ℤ, pos, negsuc, ◌+ℤ◌, ◌-ℤ◌, neg_ℤ, nat_abs, ◌≤ℤ◌, ◌<ℤ◌, sym, refl, ap, ◌∙◌, subst, zero-le, le_trans, le_of_suc-le-suc, not-suc-le-zero, lt_of_le_of_lt, zero-lt-suc, div-le_self, arith, ltb→lt, leb→le, w32, of_z, ltb-false, ltb-true, le-ltb}
+use Rattle.std.proofs.Common.{◌≡◌, ℕ, zero, suc, ◌+◌, ◌-◌, ◌/◌, ◌<◌, ◌≤◌, Bool, true, false, cond, ltb, ℤ, pos, negsuc, ◌+ℤ◌, neg_ℤ, nat_abs, ◌≤ℤ◌, ◌<ℤ◌, sym, refl, ap, ◌∙◌, subst, zero-le, le_trans, le_of_suc-le-suc, not-suc-le-zero, lt_of_le_of_lt, zero-lt-suc, div-le_self, arith, ltb→lt, leb→le, w32, of_z, ltb-false, ltb-true, le-ltb}
 use native.Mathlib.Nat.{div-lt_self, zero-div, le-suc}
 use lib.IntN.{pred_ℤ, +ℤ_one, -ℤ_one}
 use lib.Signed.{mag, quot_z, <ℤ_irrefl}
