@@ -1,4 +1,5 @@
-// The C boundary: each public function under a plain name, its answer told in eight words. include/rillgiggle.h has the calls for C.
+// The calls of the C boundary: each public function under a plain name, its answer told in eight words. The crate boundary_c exports them to C, and
+// include/rillgiggle.h has them for C.
 #![tactic(auto)]
 
 ghost use Rattle.std.specs.Prelude.{◌≡◌};
@@ -72,37 +73,28 @@ fn tell_text(text: Text, answer: &mut [u32; 8])
 
 // ---- the calls
 
-#[unsafe(no_mangle)]
-pub extern "C" fn rill_check(table: &[u32], answer: &mut [u32; 8])
+pub fn rill_check(table: &[u32], answer: &mut [u32; 8])
     ensures { answer.new ≡ check_call table.now }
 {
     let checked = table::check(table);
     tell_checked(checked, answer);
 }
 
-#[unsafe(no_mangle)]
-pub extern "C" fn rill_compile(table: &[u32], start: u32, room: &mut [u32], answer: &mut [u32; 8])
+pub fn rill_compile(table: &[u32], start: u32, room: &mut [u32], answer: &mut [u32; 8])
     ensures { ended answer.new room.new ≡ compile_call table.now start room.old }
 {
     let compiled = compiler::compile(table, start, room);
     tell_compiled(compiled, answer);
 }
 
-#[unsafe(no_mangle)]
-pub extern "C" fn rill_run_source(
-    table: &[u32],
-    store: &mut [i32],
-    fuel: u32,
-    answer: &mut [u32; 8],
-)
+pub fn rill_run_source(table: &[u32], store: &mut [i32], fuel: u32, answer: &mut [u32; 8])
     ensures { ended answer.new store.new ≡ source_call table.now store.old fuel }
 {
     let run = source::run_source(table, store, fuel);
     tell_source_run(run, answer);
 }
 
-#[unsafe(no_mangle)]
-pub extern "C" fn rill_run_code(
+pub fn rill_run_code(
     table: &[u32],
     code: &[u32],
     start: u32,
@@ -116,8 +108,7 @@ pub extern "C" fn rill_run_code(
     tell_code_run(run, answer);
 }
 
-#[unsafe(no_mangle)]
-pub extern "C" fn rill_run_depot(
+pub fn rill_run_depot(
     table: &[u32],
     code: &[u32],
     start: u32,
@@ -133,24 +124,21 @@ pub extern "C" fn rill_run_depot(
     tell_checked(ran, answer);
 }
 
-#[unsafe(no_mangle)]
-pub extern "C" fn rill_read_text(text: &[u8], room: &mut [u32], answer: &mut [u32; 8])
+pub fn rill_read_text(text: &[u8], room: &mut [u32], answer: &mut [u32; 8])
     ensures { ended answer.new room.new ≡ read_call text.now room.old }
 {
     let read = reading::read_text(text, room);
     tell_text(read, answer);
 }
 
-#[unsafe(no_mangle)]
-pub extern "C" fn rill_write_text(words: &[u32], room: &mut [u8], answer: &mut [u32; 8])
+pub fn rill_write_text(words: &[u32], room: &mut [u8], answer: &mut [u32; 8])
     ensures { ended answer.new room.new ≡ write_call words.now room.old }
 {
     let written = writing::write_text(words, room);
     tell_text(written, answer);
 }
 
-#[unsafe(no_mangle)]
-pub extern "C" fn rill_read_rule(text: &[u8], room: &mut [u32], answer: &mut [u32; 8])
+pub fn rill_read_rule(text: &[u8], room: &mut [u32], answer: &mut [u32; 8])
     ensures { ended answer.new room.new ≡ rule_call text.now room.old }
 {
     let typed = rule::read_rule(text, room);
