@@ -2,10 +2,13 @@
 // have. That byte alone makes a 1,025th line, so what follows is not needed (`listing_of_front` of lister/proofs/Front.antt).
 #![tactic(auto)]
 
-fn main() {
+use std::io;
+use std::io::Write;
+
+fn main(rt: HostRuntime) -> io::Result<()> {
     let mut input = [0u8; 33793];
-    let read = io::read_full(0, &mut input);
+    let read = filling::read_full(&mut rt.stdin(), &mut input)?;
     let mut out = [0u8; 33792];
     let listed = lister::list(&input[..read], &mut out);
-    io::write_all(1, &out[0..listed]);
+    rt.stdout().write_all(&out[0..listed])
 }

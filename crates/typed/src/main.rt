@@ -5,20 +5,22 @@
 
 ghost use Rattle.std.specs.Prelude.{◌≡◌, length};
 
+use std::io;
+use std::io::Write;
+
 fn room() -> [u8; 1048577]
     ensures { 1048577 ≡ length result }
 {
     [0; 1048577]
 }
 
-fn main() {
+fn main(rt: HostRuntime) -> io::Result<()> {
     let mut text = room();
-    let read = io::read_full(0, &mut text);
+    let read = filling::read_full(&mut rt.stdin(), &mut text)?;
     if read == 1048577 {
-        io::write_all(1, b"text over 1048576 bytes\n");
-        return;
+        return rt.stdout().write_all(b"text over 1048576 bytes\n");
     }
     let mut out = [0u8; 33792];
     let written = typist::write_table(&text[..read], &mut out);
-    io::write_all(1, &out[0..written]);
+    rt.stdout().write_all(&out[0..written])
 }

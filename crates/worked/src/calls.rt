@@ -2,9 +2,11 @@
 ghost use Rattle.std.specs.Prelude.{◌≡◌, length};
 
 use crate::{parts, show};
+use std::io;
+use std::io::Print;
 
 // The numbers behind a call's title.
-#[derive(Drop)]
+#[derive(Clone, Copy)]
 pub(crate) struct Given {
     pub(crate) first: u32,
     pub(crate) second: u32,
@@ -13,10 +15,13 @@ pub(crate) struct Given {
 }
 
 // Compiles to the first n words of a room, each aaaaaaaa before the call.
-fn compile(table: &[u32], start: u32, n: usize) {
+fn compile(rt: &impl Print, table: &[u32], start: u32, n: usize) -> io::Result<()> {
     let mut words = [0xaaaaaaaa; 4100];
-    show::compiled(compiler::compile(table, start, parts::word_room(&mut words, n)));
-    show::words(&words, n);
+    show::compiled(
+        rt,
+        compiler::compile(table, start, parts::word_room(&mut words, n)),
+    )?;
+    show::words(rt, &words, n)
 }
 
 // Zeros but for v1 and v2. A store has 32 values, and one more makes a store that is refused.
@@ -30,109 +35,131 @@ fn store(v1: u32, v2: u32) -> [i32; 33]
 }
 
 // Numbers given: v1, v2, fuel, and the length of the store.
-fn source(table: &[u32], given: Given) {
+fn source(rt: &impl Print, table: &[u32], given: Given) -> io::Result<()> {
     let mut values = store(given.first, given.second);
     let n = parts::size(given.fourth);
-    show::source_run(source::run_source(table, parts::store(&mut values, n), given.third));
-    show::variables(&values, n);
+    show::source_run(
+        rt,
+        source::run_source(table, parts::store(&mut values, n), given.third),
+    )?;
+    show::variables(rt, &values, n)
 }
 
 // Numbers given: start label, v1, fuel, and the length of the store.
-fn code(table: &[u32], code: &[u32], given: Given) {
+fn code(rt: &impl Print, table: &[u32], code: &[u32], given: Given) -> io::Result<()> {
     let mut values = store(given.second, 0);
     let n = parts::size(given.fourth);
-    show::code_run(code::run_code(
-        table,
-        code,
-        given.first,
-        parts::store(&mut values, n),
-        given.third,
-    ));
-    show::variables(&values, n);
+    show::code_run(
+        rt,
+        code::run_code(
+            table,
+            code,
+            given.first,
+            parts::store(&mut values, n),
+            given.third,
+        ),
+    )?;
+    show::variables(rt, &values, n)
 }
 
 // The same, of the code that the table compiles to, which has twelve words.
-fn own_code(table: &[u32], given: Given) {
+fn own_code(rt: &impl Print, table: &[u32], given: Given) -> io::Result<()> {
     let mut room = [0u32; 12];
     compiler::compile(table, given.first, &mut room);
-    code(table, &room, given);
+    code(rt, table, &room, given)
 }
 
 // Numbers given: start label, values of the stores, fuel, and words of the room, each aaaaaaaa before the call. There are 513 stores to take them
 // from, one more than a depot may have, and v1 of crew 1 is 1; all else is 0.
-fn depot(table: &[u32], code: &[u32], given: Given) {
+fn depot(rt: &impl Print, table: &[u32], code: &[u32], given: Given) -> io::Result<()> {
     let mut values = [0i32; 16416];
     values[33] = 1;
     let mut words = [0xaaaaaaaa; 4100];
     let n = parts::size(given.fourth);
-    show::checked(depot::run_depot(
-        table,
-        code,
-        given.first,
-        parts::store(&mut values, parts::size(given.second)),
-        given.third,
-        parts::word_room(&mut words, n),
-    ));
-    show::words(&words, n);
-    show::crews(&values);
+    show::checked(
+        rt,
+        depot::run_depot(
+            table,
+            code,
+            given.first,
+            parts::store(&mut values, parts::size(given.second)),
+            given.third,
+            parts::word_room(&mut words, n),
+        ),
+    )?;
+    show::words(rt, &words, n)?;
+    show::crews(rt, &values)
 }
 
 // Reads to the first n words of a room, each aaaaaaaa before the call.
-fn read(text: &[u8], n: usize) {
+fn read(rt: &impl Print, text: &[u8], n: usize) -> io::Result<()> {
     let mut words = [0xaaaaaaaa; 4100];
-    show::text(reading::read_text(text, parts::word_room(&mut words, n)));
-    show::words(&words, n);
+    show::text(
+        rt,
+        reading::read_text(text, parts::word_room(&mut words, n)),
+    )?;
+    show::words(rt, &words, n)
 }
 
 // The same of a typed rule.
-fn read_rule(text: &[u8], n: usize) {
+fn read_rule(rt: &impl Print, text: &[u8], n: usize) -> io::Result<()> {
     let mut words = [0xaaaaaaaa; 4100];
-    show::text(rule::read_rule(text, parts::word_room(&mut words, n)));
-    show::words(&words, n);
+    show::text(rt, rule::read_rule(text, parts::word_room(&mut words, n)))?;
+    show::words(rt, &words, n)
 }
 
-fn read_front(lines: &[u8; 33825], n: usize) {
-    read(parts::bytes(lines, 0, n), 4100);
+fn read_front(rt: &impl Print, lines: &[u8; 33825], n: usize) -> io::Result<()> {
+    read(rt, parts::bytes(lines, 0, n), 4100)
 }
 
 // Reads the first n bytes of 1,025 lines of zeros.
-fn read_zeros(n: usize) {
+fn read_zeros(rt: &impl Print, n: usize) -> io::Result<()> {
     let mut lines = [b'0'; 33825];
     lines[33824] = b'\n';
     writing::write_text(&[0; 4096], &mut lines);
-    read_front(&lines, n);
+    read_front(rt, &lines, n)
 }
 
 // Writes to the first n bytes of a room, each a point before the call.
-fn write(words: &[u32], n: usize) {
+fn write(rt: &impl Print, words: &[u32], n: usize) -> io::Result<()> {
     let mut bytes = [b'.'; 33792];
-    show::text(writing::write_text(words, parts::byte_room(&mut bytes, n)));
-    show::bytes(&bytes, n);
+    show::text(
+        rt,
+        writing::write_text(words, parts::byte_room(&mut bytes, n)),
+    )?;
+    show::bytes(rt, &bytes, n)
 }
 
 // All that the listing program would write.
-fn list(input: &[u8]) {
+fn list(rt: &impl Print, input: &[u8]) -> io::Result<()> {
     let mut out = [0u8; 33792];
     let n = lister::list(input, &mut out);
-    show::say(&out[0..n]);
+    show::say(rt, &out[0..n])
 }
 
 // The call of this kind. The text that it reads stands below its line.
-pub(crate) fn call(kind: u8, table: &[u32], instructions: &[u32], below: &[u8], given: Given) {
+pub(crate) fn call(
+    rt: &impl Print,
+    kind: u8,
+    table: &[u32],
+    instructions: &[u32],
+    below: &[u8],
+    given: Given,
+) -> io::Result<()> {
     let first = parts::size(given.first);
     let second = parts::size(given.second);
     match kind {
-        b'k' => show::checked(table::check(table)),
-        b'j' => compile(table, given.first, second),
-        b's' => source(table, given),
-        b'g' => code(table, instructions, given),
-        b'o' => own_code(table, given),
-        b'd' => depot(table, instructions, given),
-        b'r' => read(parts::bytes(below, 0, first), second),
-        b'p' => read_rule(parts::bytes(below, 0, first), second),
-        b'z' => read_zeros(first),
-        b'w' => write(table, first),
-        b'l' => list(parts::bytes(below, 0, first)),
-        _ => (),
+        b'k' => show::checked(rt, table::check(table)),
+        b'j' => compile(rt, table, given.first, second),
+        b's' => source(rt, table, given),
+        b'g' => code(rt, table, instructions, given),
+        b'o' => own_code(rt, table, given),
+        b'd' => depot(rt, table, instructions, given),
+        b'r' => read(rt, parts::bytes(below, 0, first), second),
+        b'p' => read_rule(rt, parts::bytes(below, 0, first), second),
+        b'z' => read_zeros(rt, first),
+        b'w' => write(rt, table, first),
+        b'l' => list(rt, parts::bytes(below, 0, first)),
+        _ => Ok(()),
     }
 }

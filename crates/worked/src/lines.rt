@@ -4,16 +4,18 @@ ghost use Rattle.std.specs.Prelude.{◌<◌, length};
 use crate::calls::Given;
 use crate::numbers::{ROOM, Words};
 use crate::{calls, numbers, parts, show};
+use std::io;
+use std::io::Print;
 
 // How many words the table has, and how many it has with the code behind it.
-#[derive(Drop)]
+#[derive(Clone, Copy)]
 struct Laid {
     table: usize,
     code: usize,
 }
 
 // Where a line begins, and where the last colon was, which is in this line if it has one.
-#[derive(Drop)]
+#[derive(Clone, Copy)]
 struct Place {
     start: usize,
     colon: usize,
@@ -25,28 +27,28 @@ fn table_alone(n: usize) -> Laid {
 }
 
 // A line with no title.
-fn lay(kind: u8, line: &[u8], words: &mut Words, laid: Laid) -> Laid {
+fn lay(rt: &impl Print, kind: u8, line: &[u8], words: &mut Words, laid: Laid) -> io::Result<Laid> {
     match kind {
-        b't' => table_alone(numbers::lay(line, words, 0)),
-        b'i' => Laid {
+        b't' => Ok(table_alone(numbers::lay(line, words, 0))),
+        b'i' => Ok(Laid {
             table: laid.table,
             code: numbers::lay(line, words, laid.table),
-        },
+        }),
         b'-' => {
-            show::say(line);
-            laid
+            show::say(rt, line)?;
+            Ok(laid)
         }
-        _ => laid,
+        _ => Ok(laid),
     }
 }
 
 // The title of a call. A listing begins on a line of its own.
-fn title(kind: u8, text: &[u8]) {
-    show::say(text);
+fn title(rt: &impl Print, kind: u8, text: &[u8]) -> io::Result<()> {
+    show::say(rt, text)?;
     if kind == b'l' {
-        show::say(b"\n");
+        show::say(rt, b"\n")
     } else {
-        show::say(b": ");
+        show::say(rt, b": ")
     }
 }
 
@@ -64,56 +66,82 @@ fn given(behind: &[u8]) -> Given {
 }
 
 // A call: its numbers stand behind the colon, and the text that it reads below its line.
-fn call(kind: u8, behind: &[u8], below: &[u8], words: &Words, laid: Laid) {
+fn call(
+    rt: &impl Print,
+    kind: u8,
+    behind: &[u8],
+    below: &[u8],
+    words: &Words,
+    laid: Laid,
+) -> io::Result<()> {
     let table = parts::words(words, 0, laid.table);
     let code = parts::words(words, laid.table, laid.code);
-    calls::call(kind, table, code, below, given(behind));
+    calls::call(rt, kind, table, code, below, given(behind))
 }
 
 // A line, up to where the next one begins.
-fn line(text: &[u8], next: usize, place: Place, words: &mut Words) -> Laid {
+fn line(
+    rt: &impl Print,
+    text: &[u8],
+    next: usize,
+    place: Place,
+    words: &mut Words,
+) -> io::Result<Laid> {
     let start = place.start;
     let colon = place.colon;
     let laid = place.laid;
     let line = parts::bytes(text, start, next);
     let kind = parts::byte(line, 0);
     if colon <= start {
-        return lay(kind, line, words, laid);
+        return lay(rt, kind, line, words, laid);
     }
     if (kind != b'#') & (kind != b' ') {
-        title(kind, parts::bytes(line, 2, colon - start));
+        title(rt, kind, parts::bytes(line, 2, colon - start))?;
         let below = parts::bytes(text, next, text.len());
-        call(kind, parts::bytes(text, colon, next), below, words, laid);
+        call(
+            rt,
+            kind,
+            parts::bytes(text, colon, next),
+            below,
+            words,
+            laid,
+        )?;
     }
-    laid
+    Ok(laid)
 }
 
-fn byte(text: &[u8], at: usize, place: Place, words: &mut Words) -> Place
+fn byte(
+    rt: &impl Print,
+    text: &[u8],
+    at: usize,
+    place: Place,
+    words: &mut Words,
+) -> io::Result<Place>
     requires { at < length text.now }
 {
     match text[at] {
         b':' => {
             let laid = place.laid;
-            Place {
+            Ok(Place {
                 start: place.start,
                 colon: at,
                 laid,
-            }
+            })
         }
         b'\n' => {
             let next = at + 1;
-            let laid = line(text, next, place, words);
-            Place {
+            let laid = line(rt, text, next, place, words)?;
+            Ok(Place {
                 start: next,
                 colon: place.colon,
                 laid,
-            }
+            })
         }
-        _ => place,
+        _ => Ok(place),
     }
 }
 
-pub(crate) fn run(text: &[u8]) {
+pub(crate) fn run(rt: &impl Print, text: &[u8]) -> io::Result<()> {
     let mut words = [0u32; ROOM];
     let mut place = Place {
         start: 0,
@@ -122,7 +150,8 @@ pub(crate) fn run(text: &[u8]) {
     };
     let mut at = 0;
     while at < text.len() {
-        place = byte(text, at, place, &mut words);
+        place = byte(rt, text, at, place, &mut words)?;
         at += 1;
     }
+    Ok(())
 }

@@ -2,14 +2,16 @@
 // file stdin, whose head says how they are written: so a case costs no proof.
 #![tactic(auto)]
 
+use std::io;
+
 mod calls;
 mod lines;
 mod numbers;
 mod parts;
 mod show;
 
-fn main() {
+fn main(rt: HostRuntime) -> io::Result<()> {
     let mut input = [0u8; 32768];
-    let read = io::read_full(0, &mut input);
-    lines::run(&input[..read]);
+    let read = filling::read_full(&mut rt.stdin(), &mut input)?;
+    lines::run(&rt, &input[..read])
 }

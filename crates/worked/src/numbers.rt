@@ -7,7 +7,7 @@ pub(crate) const ROOM: usize = 8200;
 pub(crate) type Words = [u32; ROOM];
 
 // How many words there are, and whether the last is negative.
-#[derive(Drop)]
+#[derive(Clone, Copy)]
 struct Place {
     end: usize,
     minus: bool,
