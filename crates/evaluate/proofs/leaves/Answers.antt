@@ -25,13 +25,13 @@ pub word-second-requires : goal.word-second-requires
 word-second-requires c = word_inside {c = arithmetic} (rw c.place-q.ensures c.requires.second) _ (lit< tt)
 
 pub leaf-a-requires : goal.leaf-a-requires
-leaf-a-requires c = record { ready = rw c.place-p.ensures c.requires.first; kind = c.word-first.ensures; low = (both_low _ _ c.if-first-second.true).0 }
+leaf-a-requires c = record { ready = rw c.place-p.ensures c.requires.first; kind = c.word-first.ensures; low = (both_low _ _ c.if-both.true).0 }
 
 pub leaf-b-requires : goal.leaf-b-requires
-leaf-b-requires c = record { ready = rw c.place-q.ensures c.requires.second; kind = c.word-second.ensures; low = (both_low _ _ c.if-first-second.true).1 }
+leaf-b-requires c = record { ready = rw c.place-q.ensures c.requires.second; kind = c.word-second.ensures; low = (both_low _ _ c.if-both.true).1 }
 
-pub returns-then-first-second : goal.returns-then-first-second
-returns-then-first-second c =
+pub returns-then-both : goal.returns-then-both
+returns-then-both c =
     let ready = c.requires.node in
     λ _. (
       value_answer ready _ c.leaf-a.type_inv c.leaf-a.ensures c.place-p.ensures,

@@ -14,8 +14,8 @@ returns-then-text-at c =
 pub operand-o-requires : goal.operand-o-requires
 operand-o-requires c =
     let if1 = c.if-text-at in
-    let class_of_lem = c.class_of-class in
-    record { inside = (let l = if1.false in omega arith); is = class_of_lem.ensures }
+    let class-of = c.class_of-class in
+    record { inside = (let l = if1.false in omega arith); is = class-of.ensures }
 
 pub overflow_sub-o : goal.overflow_sub-o
 overflow_sub-o c =
@@ -46,8 +46,8 @@ returns-then-not-word_goes_on c =
 pub token_wanted-t-requires : goal.token_wanted-t-requires
 token_wanted-t-requires c =
     let if1 = c.if-text-at in
-    let class_of_lem = c.class_of-class in
-    (c.requires.0, c.requires.1, c.requires.2, c.requires.3, at_class c.requires.4 c.requires.5 (let l = if1.false in omega arith) class_of_lem.ensures)
+    let class-of = c.class_of-class in
+    (c.requires.0, c.requires.1, c.requires.2, c.requires.3, at_class c.requires.4 c.requires.5 (let l = if1.false in omega arith) class-of.ensures)
 
 pub returns-then-t-ge29 : goal.returns-then-t-ge29
 returns-then-t-ge29 c =
