@@ -127,7 +127,8 @@ fn leaves(t: &&[u32], s: &[i32; 32], n: usize) -> Pair
     let q = place(t, n, 2);
     let first = word(t, p, 0);
     let second = word(t, q, 0);
-    if (first <= 2) & (second <= 2) {
+    let both = (first <= 2) & (second <= 2);
+    if both {
         let a = leaf(t, s, p, first);
         let b = leaf(t, s, q, second);
         return Pair { both: true, a, b };

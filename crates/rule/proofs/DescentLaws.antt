@@ -9,7 +9,7 @@ use lib.ListN.{length, get_or}
 use borrow.Author.Tests.{ltb-true, ltb-false}
 use Rattle.grammar.specs.Written.{Node}
 use Rattle.tokens.specs.Flat.{sizes}
-use Rattle.tokens.specs.Flat.{Frame, frame, tag_of, figure_of, closing, closes, waiting_all}
+use Rattle.tokens.specs.Flat.{Frame, tag_of, figure_of, closing, closes, waiting_all}
 use Rattle.tokens.specs.Shape.{tags}
 use Rattle.tokens.specs.Arrays.{stack}
 use Rattle.tokens.proofs.NodeLaws.{closing_grown}

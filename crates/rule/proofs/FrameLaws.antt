@@ -1,13 +1,13 @@
 -- A frame that is closed makes of the nodes held what `closing` makes of them: one node, a row, or nothing.
 use mathlib.Core.Path.{◌≡◌, refl, sym, ◌∙◌}
 use mathlib.Core.List.{List, [], ◌∷◌}
-use Prim.Native.Nat.{ℕ, suc, ◌+◌, ◌-◌, ◌<◌, ◌≤◌}
+use Prim.Native.Nat.{ℕ, suc, ◌+◌, ◌<◌, ◌≤◌}
 use native.Mathlib.Omega.{arith}
 use lib.ListN.{length}
 use Rattle.rules.specs.Table.{Kind, negation, both, assign}
 use Rattle.grammar.specs.Written.{Node, kind_number}
 use Rattle.tokens.specs.Flat.{one, two, form_of, make, arity, sequences, Figure, amount, kind, figure_number, figure_kind}
-use Rattle.tokens.specs.Flat.{Frame, frame, tag_of, figure_of, closing, closes, waiting_in}
+use Rattle.tokens.specs.Flat.{Frame, frame, tag_of, figure_of, closing, waiting_in}
 use Rattle.tokens.proofs.NodeLaws.{Closes, both_parts, row, negated, alone, assignment, operation, closes_as, operation_closing, operation_waits}
 use Rattle.rule.specs.declared.nodes.Built.{Built}
 use Rattle.rule.specs.inside.Nodes.{Making, Made, Rowing, RowMade, kind_of_two, Kinded, Closable, Closing, Closed}

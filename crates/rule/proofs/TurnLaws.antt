@@ -15,7 +15,7 @@ use Rattle.grammar.specs.Grammar.{nesting}
 use Rattle.grammar.specs.machine.Reader.{State}
 use Rattle.tokens.specs.declared.moves.Standing.{Standing}
 use Rattle.tokens.specs.Flat.{move_at, form_of, make, arity, sizes, figure_number, Frame}
-use Rattle.tokens.specs.Flat.{Flat, flat, left_of, frames_of, nodes_of, found, locate}
+use Rattle.tokens.specs.Flat.{Flat, flat, frames_of, nodes_of}
 use Rattle.tokens.specs.Flat.{perform}
 use Rattle.tokens.specs.Stand.{kind_of, figure, flat_of}
 use Rattle.tokens.specs.Shape.{Shape, tags, forget, shape_of}

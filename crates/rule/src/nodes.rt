@@ -137,7 +137,8 @@ pub(crate) fn make(
         return b;
     }
     let count = b.count;
-    if 1024 <= count {
+    let full = 1024 <= count;
+    if full {
         return Built {
             depth: b.depth,
             count: 1025,

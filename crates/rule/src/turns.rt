@@ -270,7 +270,8 @@ fn next_at_end(at: usize, acts: &[u8; 1024], st: &[u8; 1600], s: Standing) -> Ne
         return stuck_at(at);
     }
     let p = moves::locate(acts, st, s, 29);
-    if p.top != 0 {
+    let open = p.top != 0;
+    if open {
         return stuck_at(at);
     }
     Next {
