@@ -164,12 +164,14 @@ fn compile_accepted(table: &[u32], start: u32, room: &mut [u32]) -> Compiled
     requires { Accepted table.now }
     ensures { ended result room.new ≡ compiling table.now start room.old }
 {
-    if 65535 < start {
+    let starts_late = 65535 < start;
+    if starts_late {
         return refused(11);
     }
     let instructions = count(table);
     let end = start + instructions;
-    if 65535 < end {
+    let ends_late = 65535 < end;
+    if ends_late {
         return refused(11);
     }
     if room.len() < WIDTH * (instructions as usize) {

@@ -93,7 +93,8 @@ pub fn admit(table: &[u32], code: &[u32], start: u32, fits: bool) -> Checked
     if !fits {
         return refused(10, 0);
     }
-    if 65535 < start {
+    let starts_late = 65535 < start;
+    if starts_late {
         return refused(11, 0);
     }
     check_code(table, code)

@@ -12,9 +12,9 @@ returns-in-Refused c = sym (refused_table _ _ _ _ _ (refused _ c.check-checked.e
 pub returns-then-not-fits : goal.returns-then-not-fits
 returns-then-not-fits c = c.refused.ensures ∙ sym (refused_store _ _ _ _ (accepted _ c.check-checked.ensures c.in_default.is) (ap not c.if-not-fits.true))
 
-pub returns-then-start-gt65535 : goal.returns-then-start-gt65535
-returns-then-start-gt65535 c =
-    c.refused-then-start-gt65535.ensures ∙ sym (refused_start _ _ _ _ (accepted _ c.check-checked.ensures c.in_default.is) (ap not c.if-not-fits.false) (omega arith))
+pub returns-then-starts_late : goal.returns-then-starts_late
+returns-then-starts_late c =
+    c.refused-then-starts_late.ensures ∙ sym (refused_start _ _ _ _ (accepted _ c.check-checked.ensures c.in_default.is) (ap not c.if-not-fits.false) (omega arith))
 
 pub returns : goal.returns
 returns c =
