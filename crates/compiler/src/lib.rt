@@ -160,6 +160,7 @@ fn refused(number: u32) -> Compiled
 }
 
 // Refusals 11 and 12, and the code of a table that is accepted.
+#[tactic(auto, using(crate::proofs::Endings::start_late, crate::proofs::Endings::end_late))]
 fn compile_accepted(table: &[u32], start: u32, room: &mut [u32]) -> Compiled
     requires { Accepted table.now }
     ensures { ended result room.new ≡ compiling table.now start room.old }
