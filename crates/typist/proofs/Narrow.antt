@@ -14,7 +14,7 @@ use Rattle.grammar.specs.Layout.{InGrammar}
 use Rattle.grammar.specs.Written.{Node, node, Word, plain, child, arith_node, boole_node, rule_node, size, size_below, word_at, written, written_below, table_of}
 use Rattle.grammar.specs.Written.{kind_number, operator_number, relation_number, truth_number}
 use Rattle.grammar.proofs.bytes.InRange.{laid_in}
-use Rattle.grammar.proofs.table.TypedTable.{Fits, fits, FitsPlace, is_unused, is_any, is_var, is_child}
+use Rattle.grammar.proofs.table.TypedTable.{Fits, fits, FitsPlace, is_var, is_child}
 use Rattle.grammar.proofs.table.TypedNodes.{row_fits}
 
 -- ---- lists of words

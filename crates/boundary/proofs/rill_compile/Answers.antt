@@ -1,0 +1,9 @@
+-- `rill_compile` compiles, and tells the answer. Assumes nothing.
+use Rattle.rules.specs.Answer.{compiled_words}
+use Rattle.boundary.specs.Calls.{compile_call}
+use Rattle.boundary.proofs.Telling.{told_as_defined}
+use Rattle.boundary.proofs.rill_compile.Goals as goal
+
+pub returns : goal.returns
+unfolding compile_call
+returns c = told_as_defined compiled_words c.tell_compiled.ensures c.compile-compiled.ensures

@@ -1,0 +1,9 @@
+-- `rill_write_text` writes the text, and tells the answer. Assumes nothing.
+use Rattle.rules.specs.Answer.{text_words}
+use Rattle.boundary.specs.Calls.{write_call}
+use Rattle.boundary.proofs.Telling.{told_as_defined}
+use Rattle.boundary.proofs.rill_write_text.Goals as goal
+
+pub returns : goal.returns
+unfolding write_call
+returns c = told_as_defined text_words c.tell_text.ensures c.write_text-written.ensures
