@@ -160,18 +160,17 @@ fn refused(number: u32) -> Compiled
 }
 
 // Refusals 11 and 12, and the code of a table that is accepted.
+#[tactic(auto, using(crate::proofs::Endings::start_late, crate::proofs::Endings::end_late))]
 fn compile_accepted(table: &[u32], start: u32, room: &mut [u32]) -> Compiled
     requires { Accepted table.now }
     ensures { ended result room.new ≡ compiling table.now start room.old }
 {
-    let starts_late = 65535 < start;
-    if starts_late {
+    if 65535 < start {
         return refused(11);
     }
     let instructions = count(table);
     let end = start + instructions;
-    let ends_late = 65535 < end;
-    if ends_late {
+    if 65535 < end {
         return refused(11);
     }
     if room.len() < WIDTH * (instructions as usize) {

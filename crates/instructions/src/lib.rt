@@ -83,6 +83,7 @@ pub fn check_code(t: &[u32], c: &[u32]) -> Checked
 }
 
 // Refusals 1 to 11 and 13, in this order. `fits` tells whether what is lent of stores has the length that the call asks for.
+#[tactic(auto, using(table::proofs::Answer::accepted, crate::proofs::Order::refused_start))]
 pub fn admit(table: &[u32], code: &[u32], start: u32, fits: bool) -> Checked
     ensures { result ≡ answer (admission table.now code.now start (refuse (not fits) 10 0)) }
 {
@@ -93,8 +94,7 @@ pub fn admit(table: &[u32], code: &[u32], start: u32, fits: bool) -> Checked
     if !fits {
         return refused(10, 0);
     }
-    let starts_late = 65535 < start;
-    if starts_late {
+    if 65535 < start {
         return refused(11, 0);
     }
     check_code(table, code)

@@ -212,8 +212,8 @@ fn check_tree(t: &[u32], rows: &[u32; 37], once: &[u32; 32], again: &[u32; 32]) 
         return refused(8, k);
     }
     // A node is at most one deeper than its number.
-    let is_shallow = root < 256;
-    if is_shallow {
+    let low = root < 256;
+    if low {
         return Checked::Done;
     }
     if levels::shallow(t, rows) {

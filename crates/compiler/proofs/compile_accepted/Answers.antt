@@ -3,21 +3,13 @@
 use native.Mathlib.Omega.{arith}
 use Rattle.rules.proofs.TableLaws.{Facts, accepted_facts}
 use Rattle.rules.proofs.Bound.{few_instructions}
-use Rattle.compiler.proofs.Endings.{start_late, end_late, room_short, whole_fits, compiled}
+use Rattle.compiler.proofs.Endings.{room_short, whole_fits, compiled}
 use Rattle.compiler.proofs.compile_accepted.Goals as goal
-
-pub returns-then-starts_late : goal.returns-then-starts_late
-returns-then-starts_late c =
-    rw c.refused.ensures (start_late _ _ _ c.requires (omega arith))
 
 pub overflow_add-end : goal.overflow_add-end
 overflow_add-end c =
     let f : Facts _ = accepted_facts _ c.requires in
     omega (arith, few_instructions _ f, f.few)
-
-pub returns-then-ends_late : goal.returns-then-ends_late
-returns-then-ends_late c =
-    rw c.refused-then-ends_late.ensures (end_late _ _ _ c.requires (omega arith) (omega arith))
 
 pub returns-then-room-instructions : goal.returns-then-room-instructions
 returns-then-room-instructions c =

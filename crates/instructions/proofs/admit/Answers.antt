@@ -3,7 +3,7 @@ use mathlib.Core.Path.{sym, ap, ◌∙◌}
 use mathlib.Core.Bool.{not}
 use native.Mathlib.Omega.{arith}
 use Rattle.table.proofs.Answer.{accepted, refused}
-use Rattle.instructions.proofs.Order.{refused_table, refused_store, refused_start, code_decides}
+use Rattle.instructions.proofs.Order.{refused_table, refused_store, code_decides}
 use Rattle.instructions.proofs.admit.Goals as goal
 
 pub returns-in-Refused : goal.returns-in-Refused
@@ -11,10 +11,6 @@ returns-in-Refused c = sym (refused_table _ _ _ _ _ (refused _ c.check-checked.e
 
 pub returns-then-not-fits : goal.returns-then-not-fits
 returns-then-not-fits c = c.refused.ensures ∙ sym (refused_store _ _ _ _ (accepted _ c.check-checked.ensures c.in_default.is) (ap not c.if-not-fits.true))
-
-pub returns-then-starts_late : goal.returns-then-starts_late
-returns-then-starts_late c =
-    c.refused-then-starts_late.ensures ∙ sym (refused_start _ _ _ _ (accepted _ c.check-checked.ensures c.in_default.is) (ap not c.if-not-fits.false) (omega arith))
 
 pub returns : goal.returns
 returns c =

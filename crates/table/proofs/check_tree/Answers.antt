@@ -28,8 +28,8 @@ returns-then-k-root c =
     (refused_8 c.args.t.now c.known_row_at.result c.known_row_at.ensures (omega arith) _ c.requires.marks
     (search rules) _ lower first.once (first.not_once (omega (arith, lower))))
 
-pub returns-then-is_shallow : goal.returns-then-is_shallow
-returns-then-is_shallow c =
+pub returns-then-low : goal.returns-then-low
+returns-then-low c =
     let all_ones : (k : ℕ) → k < root c.args.t.now → named (c.args.once.now, c.args.again.now) k ≡ 1 = λ k h. c.first_not_once-k.ensures.once k (omega arith) in
     sym
     (none_refused c.args.t.now c.known_row_at.result c.known_row_at.ensures (omega arith) _ c.requires.marks (search rules) all_ones
