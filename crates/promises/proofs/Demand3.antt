@@ -126,7 +126,7 @@ module _ (t : List ℕ) (start : ℕ) (room after : List ℕ) (m : Made) (compil
   finishes : (τ : Store) (d : Evaluates (meaning t) (program t) σ τ) → count d ≤ n → Finished answers t start m.end σ n r σ' q σ'' (count d) τ
   unfolding code_end source_end
   finishes τ d l =
-      let told = (simulation.demand-3 (meaning t) (program t) start n σ).finishes_if d l in
+      let told = (simulation.demand_3 (meaning t) (program t) start n σ).finishes_if d l in
       let steps : n - (n - count d) ≡ count d = omega arith in
       let by_code : ended r σ' ≡ ended (CodeRun.Finished (halt m.end (count d))) τ = code_ends ∙ ap (code_end n) told.0 ∙ rw (steps, ← end_is) refl in
       let by-source : ended q σ'' ≡ ended (SourceRun.Finished (count d)) τ = source_ends ∙ ap (source_end n) told.1 ∙ rw steps refl in
@@ -135,7 +135,7 @@ module _ (t : List ℕ) (start : ℕ) (room after : List ℕ) (m : Made) (compil
   runs_out : (EvaluatesWithin (meaning t) (program t) σ n → ⊥) → OutOfFuel answers t start m.end σ n r σ' q σ''
   unfolding code_end source_end
   runs_out nothing =
-      let told = (simulation.demand-3 (meaning t) (program t) start n σ).otherwise_out nothing in
+      let told = (simulation.demand_3 (meaning t) (program t) start n σ).otherwise_out nothing in
       let inside = told.1 in
       let by_code : ended r σ' ≡ ended (CodeRun.OutOfFuel (halt inside.label n)) told.0 = code_ends ∙ ap (code_end n) inside.is in
       let by-source : ended q σ'' ≡ ended (SourceRun.OutOfFuel n) told.0 = source_ends ∙ ap (source_end n) told.2 in

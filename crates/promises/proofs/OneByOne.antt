@@ -65,6 +65,11 @@ faithful_answers = record {
   three_words = λ {y} r. refl;
 }
 
+crew_words_told : {y : CodeRun} → Ran y → crew_words y ≡ words.three_words (code_run_words y)
+unfolding code_run_words crew_words
+crew_words_told (did_finish h) = refl
+crew_words_told (ran_out h) = refl
+
 faithful_words : Faithful words code_run_words
 unfolding code_run_words crew_words
 faithful_words = record {
@@ -72,7 +77,7 @@ faithful_words = record {
   not_finished = λ h f. omega arith;
   out_of_fuel = λ h. refl;
   not_out_of_fuel = λ h f. omega arith;
-  three_words = λ r. elim r [ did_finish h ↦ refl | ran_out h ↦ refl ];
+  three_words = λ r. crew_words_told r;
 }
 
 -- a crew's first word is 0 or 1 as its run ended
