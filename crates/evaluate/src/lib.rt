@@ -48,7 +48,8 @@ fn leaf(t: &&[u32], s: &[i32; 32], n: usize, k: u32) -> i32
     requires { Leaf t.now.now n k }
     ensures { result ≡ (meaning t.now.now).arith n s.now }
 {
-    if k == 1 {
+    let is_number = k == 1;
+    if is_number {
         return value::of_word(word(t, n, 1));
     }
     let x = place(t, n, 1);

@@ -36,22 +36,22 @@ module _ {t : List ℕ} {n k : ℕ} (leaf : Leaf t n k) where
 pub word-requires : goal.word-requires
 word-requires c = word_inside c.requires.ready _ (lit< tt)
 
-pub returns-then-k-eq1 : goal.returns-then-k-eq1
-returns-then-k-eq1 c =
+pub returns-then-is_number : goal.returns-then-is_number
+returns-then-is_number c =
     let answer = read_back c.of_word.result c.of_word.type_inv ∙ c.of_word.ensures ∙ ap value c.word.ensures in
-    answer ∙ sym (number_means _ (a_number c.requires c.if-k-eq1.true))
+    answer ∙ sym (number_means _ (a_number c.requires c.if-is_number.true))
 
 pub place-x-requires : goal.place-x-requires
 place-x-requires c = word_inside c.requires.ready _ (lit< tt)
 
 pub offset_bounds-s-x : goal.offset_bounds-s-x
-offset_bounds-s-x c = scaled_Fits c.place-x.result 32 4 (inside c.requires c.place-x.ensures c.if-k-eq1.false) (lit< tt)
+offset_bounds-s-x c = scaled_Fits c.place-x.result 32 4 (inside c.requires c.place-x.ensures c.if-is_number.false) (lit< tt)
 
 pub bounds-s-x : goal.bounds-s-x
-bounds-s-x c = inside c.requires c.place-x.ensures c.if-k-eq1.false
+bounds-s-x c = inside c.requires c.place-x.ensures c.if-is_number.false
 
 pub returns : goal.returns
 returns c =
     let σ = c.args.s.now in
     let answer = read_back _ (search rules) ∙ ap (λ x. get_or σ x (pos 0)) c.place-x.ensures in
-    answer ∙ sym (variable_means σ (a_variable c.requires c.if-k-eq1.false))
+    answer ∙ sym (variable_means σ (a_variable c.requires c.if-is_number.false))
