@@ -5,7 +5,7 @@ ghost use Rattle.std.specs.Prelude.{◌≡◌, not, ◌&&◌, ◌<◌, eqb, ltb,
 ghost use Rattle.rules.specs.declared.Checked.{Checked};
 ghost use Rattle.rules.specs.Refusal.{fine, refusal, refuse};
 ghost use Rattle.rules.specs.Table.{field, nodes};
-ghost use Rattle.rules.specs.CodeWords.{instructions, fields_fit, rises as labelsRise, code_fault, code_refusal};
+ghost use Rattle.rules.specs.CodeWords.{instructions, fields_fit, rises as labels_rise, code_fault, code_refusal};
 ghost use Rattle.table.specs.Checking.{answer};
 ghost use Rattle.instructions.specs.Admission.{admission};
 
@@ -45,7 +45,7 @@ fn fields_fit(t: &[u32], o: u32, x: u32, y: u32) -> bool
 // Whether the label of instruction k is above that of the one before it.
 fn rises(c: &[u32], k: usize) -> bool
     requires { k < instructions c.now }
-    ensures { result ≡ labelsRise c.now k }
+    ensures { result ≡ labels_rise c.now k }
 {
     if k == 0 {
         return true;
