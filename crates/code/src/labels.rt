@@ -7,7 +7,7 @@ use lent::part;
 use rules::WIDTH;
 
 // A label, and the position of the instruction that bears it, or one past all instructions.
-#[derive(Drop)]
+#[derive(Clone, Copy)]
 pub(crate) struct Spot {
     pub(crate) label: u32,
     pub(crate) place: usize,

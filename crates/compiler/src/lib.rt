@@ -22,7 +22,7 @@ const IF: u32 = 35;
 
 const WHILE: u32 = 36;
 
-#[derive(Drop)]
+#[derive(Clone, Copy)]
 struct Node {
     kind: u32,
     p: u32,

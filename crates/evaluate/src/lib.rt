@@ -112,7 +112,7 @@ pub fn boolean(t: &&[u32], s: &[i32; 32], n: usize) -> bool
 }
 
 // What a node's two operands are worth, where both are leaves.
-#[derive(Drop)]
+#[derive(Clone, Copy)]
 struct Pair {
     both: bool,
     a: i32,

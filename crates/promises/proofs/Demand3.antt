@@ -45,7 +45,7 @@ use Rattle.boundary.proofs.rill_run_source.Kinds as rill-source-kinds
 use Rattle.boundary.proofs.rill_run_source.Reads as rill-source-reads
 use Rattle.boundary.proofs.rill_run_code.Kinds as rill-code-kinds
 use Rattle.boundary.proofs.rill_run_code.Reads as rill-code-reads
-use Rattle.promises.specs.Demand3.{Verdicts, answers, words, Together, Finished, OutOfFuel, Evaluated, Demand-3}
+use Rattle.promises.specs.Demand3.{Verdicts, answers, words, Together, Finished, OutOfFuel, Evaluated, Demand3}
 
 -- ---- "only if" follows from the rest: whether there is an evaluation within n is decided
 
@@ -81,7 +81,7 @@ module _ {Code Source : Type 0} (tells : Verdicts Code Source) (plain : Plain te
       → Evaluated tells t start end σ n code σ' source σ'' steps υ
   evaluated d l e left = rw (left, ← e) (record { evaluation = d; counted = refl; within = l })
 
-  decided : Demand-3 tells t start end σ n code σ' source σ''
+  decided : Demand3 tells t start end σ n code σ' source σ''
   decided = record {
     finishes_if = λ {τ} d l. finishes τ d l;
     code_finishes_only_if = λ told. elim (within? (meaning t) (program t) n σ) [
@@ -149,14 +149,14 @@ module _ (t : List ℕ) (start : ℕ) (room after : List ℕ) (m : Made) (compil
         unfinished = rw (after_is by_code) told.3;
       }
 
-  kept : Demand-3 answers t start m.end σ n r σ' q σ''
+  kept : Demand3 answers t start m.end σ n r σ' q σ''
   kept = decided answers plain_answers t start m.end σ n r σ' q σ'' finishes runs_out
 
 -- the same of calls whose arguments are equal
 kept_together : (t : List ℕ) (start : ℕ) (room after : List ℕ) (m : Made) → ended (Compiled.Done m) after ≡ compiling t start room
     → (t₁ c : List ℕ) (start₁ : ℕ) (σ : Store) (n : ℕ) (r : CodeRun) (σ' : Store) → ended r σ' ≡ code_run t₁ c start₁ σ n
     → (t₂ : List ℕ) (σ₂ : Store) (n₂ : ℕ) (q : SourceRun) (σ'' : Store) → ended q σ'' ≡ source_run t₂ σ₂ n₂
-    → Together t start (written m after) t₁ c start₁ σ n t₂ σ₂ n₂ → Demand-3 answers t start m.end σ n r σ' q σ''
+    → Together t start (written m after) t₁ c start₁ σ n t₂ σ₂ n₂ → Demand3 answers t start m.end σ n r σ' q σ''
 kept_together t start room after m compiled t₁ c start₁ σ n r σ' code-met t₂ σ₂ n₂ q σ'' source-met same =
     kept t start room after m compiled σ same.values n
     r σ' (rw (same.code_table, same.code_words, same.code_start) at code-met)
@@ -173,7 +173,7 @@ module _ (κs : Lfts 2) (a : Dens κs compile-kinds.ps) (s : AtExit (ended_of 2 
       → Together a.0.now a.1.0 (written m s.1.1.0.now)
       b.0.now b.1.0.now b.1.1.0 b.1.1.1.0.now b.1.1.1.1.0
       c.0.now c.1.0.now c.1.1.0
-      → Demand-3 answers a.0.now a.1.0 m.end b.1.1.1.0.now b.1.1.1.1.0
+      → Demand3 answers a.0.now a.1.0 m.end b.1.1.1.0.now b.1.1.1.1.0
       r u.1.1.1.0.now q v.1.0.now
   demand_3 m r q compiled code-met source-met same =
       kept_together _ _ _ _ m compiled _ _ _ _ _ r _ code-met _ _ _ q _ source-met same
@@ -190,8 +190,8 @@ compiled_done (Compiled.Refused r) m e = let z : ◌≡◌ {A = ℕ} 0 3 = cc in
 
 -- verdicts told in words
 module _ {t : List ℕ} {start end : ℕ} {σ : Store} {n : ℕ} {r : CodeRun} {σ' : Store} {q : SourceRun} {σ'' : Store} where
-  in_words : {v w : List ℕ} → v ≡ code_run_words r → w ≡ source_run_words q → Demand-3 answers t start end σ n r σ' q σ''
-      → Demand-3 words t start end σ n v σ' w σ''
+  in_words : {v w : List ℕ} → v ≡ code_run_words r → w ≡ source_run_words q → Demand3 answers t start end σ n r σ' q σ''
+      → Demand3 words t start end σ n v σ' w σ''
   in_words {v} {w} code source d = decided words plain_words t start end σ n v σ' w σ'' finishing running_out
     where
       finishing : (τ : Store) (e : Evaluates (meaning t) (program t) σ τ) → count e ≤ n → Finished words t start end σ n v σ' w σ'' (count e) τ
@@ -221,7 +221,7 @@ module _ (κs : Lfts 3) (a : Dens κs rill-compile-kinds.ps) (s : AtExit (ended_
       → Together a.0.now a.1.0 (written m s.1.1.0.now)
       b.0.now b.1.0.now b.1.1.0 b.1.1.1.0.now b.1.1.1.1.0
       c.0.now c.1.0.now c.1.1.0
-      → Demand-3 words a.0.now a.1.0 m.end b.1.1.1.0.now b.1.1.1.1.0
+      → Demand3 words a.0.now a.1.0 m.end b.1.1.1.0.now b.1.1.1.1.0
       u.1.1.1.1.1.0.now u.1.1.1.0.now v.1.1.1.0.now v.1.0.now
   unfolding compile_call code_call source_call
   demand_3_in_words m compiled done code-met source-met same =

@@ -33,8 +33,8 @@ use Rattle.boundary.proofs.rill_run_source.Reads as rill-source-reads
 use Rattle.boundary.proofs.rill_read_rule.Kinds as rill-rule-kinds
 use Rattle.boundary.proofs.rill_read_rule.Reads as rill-rule-reads
 use Rattle.promises.specs.Demand3 as demand
-use Rattle.promises.specs.Demand3.{Verdicts, Demand-3}
-use Rattle.promises.specs.Typed.{Accepts, Refuses, SourceFollows, TypedDemand-3}
+use Rattle.promises.specs.Demand3.{Verdicts, Demand3}
+use Rattle.promises.specs.Typed.{Accepts, Refuses, SourceFollows, TypedDemand3}
 use Rattle.promises.proofs.Demand3.{plain_answers, plain_words}
 use Rattle.promises.proofs.TypedReading.{read_done, read_unrefused, read_refused, text_told}
 use Rattle.promises.proofs.TypedRuns.{checked, source_follows, demand_of_tree, table_is, same_as_tree, written_passes}
@@ -73,8 +73,8 @@ module _ (κs : Lfts 2) (a : Dens κs rule-kinds.ps) (s : AtExit (ended_of 2 rul
     -- where demand 3 holds of these words, as `demand_3` has it of any answers that meet the contracts, it holds of the tree that was typed
     pub typed_demand_3 : {p : Rule} → InGrammar a.0.now p → {Code Source : Type 0} {tells : Verdicts Code Source} {start end : ℕ} {σ : Store}
         {fuel : ℕ} {code : Code} {σ' : Store} {source : Source} {σ'' : Store}
-        → Demand-3 tells (take n s.1.0.now) start end σ fuel code σ' source σ''
-        → TypedDemand-3 tells p start end σ fuel code σ' source σ''
+        → Demand3 tells (take n s.1.0.now) start end σ fuel code σ' source σ''
+        → TypedDemand3 tells p start end σ fuel code σ' source σ''
     typed_demand_3 {p} g d = let read = read_rule_accepts n done in demand_of_tree _ p (same_as_tree read g) (table_is read g) d
 
 -- ---- on the contracts of the C boundary
@@ -124,7 +124,7 @@ module _ (κs : Lfts 3) (a : Dens κs rill-rule-kinds.ps) (s : AtExit (ended_of 
 
     pub typed_demand_3_in_words : {p : Rule} → InGrammar a.0.now p → {Code Source : Type 0} {tells : Verdicts Code Source} {start end : ℕ}
         {σ : Store} {fuel : ℕ} {code : Code} {σ' : Store} {source : Source} {σ'' : Store}
-        → Demand-3 tells (take n s.1.0.now) start end σ fuel code σ' source σ''
-        → TypedDemand-3 tells p start end σ fuel code σ' source σ''
+        → Demand3 tells (take n s.1.0.now) start end σ fuel code σ' source σ''
+        → TypedDemand3 tells p start end σ fuel code σ' source σ''
     typed_demand_3_in_words {p} g d =
         let read = read_rule_accepts_in_words n done in demand_of_tree _ p (same_as_tree read g) (table_is read g) d

@@ -22,8 +22,8 @@ use Rattle.table.specs.Checking.{answer, checking}
 use Rattle.source.specs.SourceRun.{source_end, source_run}
 use Rattle.source.proofs.Endings.{source_runs}
 use Rattle.promises.specs.Demand3 as demand
-use Rattle.promises.specs.Demand3.{Verdicts, Demand-3}
-use Rattle.promises.specs.Typed.{Accepts, EvaluatesWithin, SourceFollows, TypedDemand-3}
+use Rattle.promises.specs.Demand3.{Verdicts, Demand3}
+use Rattle.promises.specs.Typed.{Accepts, EvaluatesWithin, SourceFollows, TypedDemand3}
 use Rattle.promises.proofs.Demand3.{Plain}
 
 -- ---- the words that were written pass the check
@@ -82,7 +82,7 @@ module _ (t : List ℕ) (p : Rule) (same : Follows (meaning t) (program t) p) wh
   -- demand 3 of the table is demand 3 of the tree
   pub demand_of_tree : {Code Source : Type 0} {tells : Verdicts Code Source} {start end : ℕ} {σ : Store} {n : ℕ}
       {code : Code} {σ' : Store} {source : Source} {σ'' : Store} → t ≡ table_of p
-      → Demand-3 tells t start end σ n code σ' source σ'' → TypedDemand-3 tells p start end σ n code σ' source σ''
+      → Demand3 tells t start end σ n code σ' source σ'' → TypedDemand3 tells p start end σ n code σ' source σ''
   demand_of_tree {tells} {start} {end} {σ} {n} {code} {σ'} {source} {σ''} table d = record {
     finishes_if = λ {k} {τ} e l.
         let w = same.evaluated e in

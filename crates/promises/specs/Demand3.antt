@@ -74,7 +74,7 @@ module _ {Code Source : Type 0} (tells : Verdicts Code Source) (t : List ℕ) (s
   -- "the compiled code, begun at its start label, finishes exactly if the While rules give an evaluation from that store whose count, taken on
   -- the While rules alone, is at most n; it then stands at the end label with that store and count. Otherwise it is out of fuel after n steps.
   -- The source run gives the same verdict, count and store in both cases."
-  pub record Demand-3 : Type 0 where
+  pub record Demand3 : Type 0 where
     pub finishes_if : {τ : Store} (d : Evaluates (meaning t) (program t) σ τ) → count d ≤ n → Finished (count d) τ
     pub code_finishes_only_if : {label steps : ℕ} → code ≡ tells.code_finished label steps → Evaluated steps σ'
     pub source_finishes_only_if : {steps : ℕ} → source ≡ tells.source_finished steps → Evaluated steps σ''

@@ -52,8 +52,8 @@ pub record SourceFollows {Code Source : Type 0} (tells : Verdicts Code Source) (
   pub finishes_only_if : {k : ℕ} → source ≡ tells.source_finished k → Evaluates p σ k σ' × (k ≤ n)
   pub otherwise : (EvaluatesWithin p σ n → ⊥) → (source ≡ tells.source_out n) × Unfinished p σ n σ'
 
--- demand 3 over the tree that was typed, of the code that its table compiled to and of the source run: `Demand-3` with the While rules of the tree
-pub record TypedDemand-3 {Code Source : Type 0} (tells : Verdicts Code Source) (p : Rule) (start end : ℕ) (σ : Store) (n : ℕ)
+-- demand 3 over the tree that was typed, of the code that its table compiled to and of the source run: `Demand3` with the While rules of the tree
+pub record TypedDemand3 {Code Source : Type 0} (tells : Verdicts Code Source) (p : Rule) (start end : ℕ) (σ : Store) (n : ℕ)
     (code : Code) (σ' : Store) (source : Source) (σ'' : Store) : Type 0 where
   pub finishes_if : {k : ℕ} {τ : Store} → Evaluates p σ k τ → k ≤ n → Finished tells (table_of p) start end σ n code σ' source σ'' k τ
   pub code_finishes_only_if : {label k : ℕ} → code ≡ tells.code_finished label k → Evaluates p σ k σ' × (k ≤ n)

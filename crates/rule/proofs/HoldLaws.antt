@@ -7,7 +7,7 @@ use lib.ListN.{length, get_or, take, set, length-set}
 use lib.Seq.{take-suc-set}
 use Rattle.rules.specs.Table.{Kind}
 use Rattle.grammar.specs.Written.{Node, node, plain, child, kind_number, size, size_below, depth, depth_below, word_at, written, written_below}
-use Rattle.tokens.specs.Flat.{Form, no_Node, leaf, one, two, three, numbered, make, arity, sizes}
+use Rattle.tokens.specs.Flat.{Form, no_node, leaf, one, two, three, numbered, make, arity, sizes}
 use Rattle.tokens.specs.Arrays.{stack}
 use Rattle.tokens.proofs.ArrayLaws.{stack_length, stack_pushed}
 use Rattle.rule.specs.inside.Nodes.{roots_of, depths_of, written_of, Holds, first, second, third, below, Put}
@@ -145,10 +145,10 @@ module _ (k : Kind) (x : ℕ) (roots deep words words₂ : List ℕ) (base count
   Written form = Put words count (kind_number k) (first form x a) (second form a b) (third form c) words₂
 
   pub holds_make : (form : Form) (ns : List Node) → Holds ns roots deep words (base + arity form) count → arity form ≤ length ns
-      → (form ≡ no_Node → ⊥)
+      → (form ≡ no_node → ⊥)
       → Written form → Built_of form ns
   unfolding make arity first second third below roots_of depths_of sizes size size_below depth depth_below
-  holds_make no_Node ns H h n P = absurd (n refl)
+  holds_make no_node ns H h n P = absurd (n refl)
   holds_make leaf ns H h n P =
       let z : base + 0 ≡ base = omega arith in
       let r = rw z at H.roots_are in

@@ -9,7 +9,7 @@ use lib.ListN.{length, get_or, set, length-set}
 use borrow.Author.Tests.{eqb-true}
 use Rattle.rules.specs.Table.{Kind}
 use Rattle.grammar.specs.Written.{Node, node, Word, plain, child, kind_number, size, size_below, depth, depth_below}
-use Rattle.tokens.specs.Flat.{move_at, Form, no_Node, leaf, one, two, three, numbered, form_of, make, arity, sizes}
+use Rattle.tokens.specs.Flat.{move_at, Form, no_node, leaf, one, two, three, numbered, form_of, make, arity, sizes}
 use Rattle.tokens.proofs.NodeLaws.{adds, make_size}
 use Rattle.rule.specs.declared.nodes.Built.{Built}
 use Rattle.rule.specs.inside.Nodes.{depths_of, Holds, first, second, third, below, Put, Writing, NodeWritten, Making, Made}
@@ -41,7 +41,7 @@ below_few : (form : Form) (ns : List Node) (roots deep words : List ℕ) (base c
     → Holds ns roots deep words (base + arity form) count
     → arity form ≤ length ns → below form (get_or deep base 0) (get_or deep (base + 1) 0) (get_or deep (base + 2) 0) ≤ count
 unfolding below arity depths_of sizes
-below_few no_Node ns roots deep words base count H h = omega arith
+below_few no_node ns roots deep words base count H h = omega arith
 below_few leaf ns roots deep words base count H h = omega arith
 below_few one [] roots deep words base count H h = absurd (omega arith)
 below_few one (A ∷ ms) roots deep words base count H h =
@@ -151,7 +151,7 @@ make_writes {roots} {deep} {words} {b} {form} {m} {base} M h me be =
     holds_at : {ns : List Node} {d e : ℕ} → d ≡ e → Holds ns roots deep words d b.count → Holds ns roots deep words e b.count
     holds_at q H = rw q at H
 
-some_node : {f : ℕ} → Six f → (f ≡ 0 → ⊥) → form_of f ≡ no_Node → ⊥
+some_node : {f : ℕ} → Six f → (f ≡ 0 → ⊥) → form_of f ≡ no_node → ⊥
 unfolding form_of
 some_node is_0 h e = h refl
 some_node is_1 h e = let z : ◌≡◌ {A = ℕ} 0 1 = cc in omega arith

@@ -19,7 +19,7 @@ use tokens::moves::Standing;
 use tokens::tables;
 
 // What is known at the end of the text: refused, with a number and a place, or a table of `count` nodes (number 0).
-#[derive(Drop)]
+#[derive(Clone, Copy)]
 struct Outcome {
     number: u32,
     place: usize,

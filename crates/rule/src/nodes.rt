@@ -5,7 +5,7 @@ ghost use Rattle.rule.specs.inside.Nodes.{first, second, third, below, Put, Writ
 ghost use Rattle.rule.specs.inside.Nodes.{RowMade, kind_of_two, Closing, Closed, Descending, Descended};
 
 // How many nodes no node names yet, and how many there are: 1,025 says that there are too many.
-#[derive(Drop)]
+#[derive(Clone, Copy)]
 pub(crate) struct Built {
     pub depth: usize,
     pub count: usize,

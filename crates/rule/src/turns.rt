@@ -9,7 +9,7 @@ use tokens::moves::{Place, Standing};
 use tokens::{moves, spelling};
 
 // Where the reading stands after a token, or stuck at `end`.
-#[derive(Drop)]
+#[derive(Clone, Copy)]
 pub(crate) struct Turn {
     pub stuck: bool,
     pub end: usize,
@@ -240,7 +240,7 @@ fn go_on(
 // ---- a turn
 
 // What follows a phrase: a token's move, or the end, at which all frames are closed; or the text is stuck at `end`.
-#[derive(Drop)]
+#[derive(Clone, Copy)]
 struct Next {
     stuck: bool,
     end: usize,

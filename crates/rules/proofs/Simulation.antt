@@ -191,7 +191,7 @@ end_outside s ℓ m l = outside (compile s ℓ) m (λ d. omega (arith, ((compile
 -- "the compiled code, begun at its start label, finishes exactly if the While rules give an evaluation from that store whose count is at
 -- most n; it then stands at the end label with that store and count. Otherwise it is out of fuel after n steps. The source run gives the
 -- same verdict, count and store in both cases."
-pub record Demand-3 (M : Meaning) (s : Stm) (ℓ n : ℕ) (σ : Store) : Type 0 where
+pub record Demand3 (M : Meaning) (s : Stm) (ℓ n : ℕ) (σ : Store) : Type 0 where
   pub finishes_if : {σ' : Store} (d : Evaluates M s σ σ') → count d ≤ n
       → (run M (compile s ℓ) n ℓ σ ≡ finished (ℓ + size s) σ' (n - count d)) × (exec M s n σ ≡ done σ' (n - count d))
   pub otherwise_out : (EvaluatesWithin M s σ n → ⊥)
@@ -206,7 +206,7 @@ finished_as {e = e} end (arrives {σ = σ₁} {left = m} f) {ℓ'} {σ'} {left} 
     let at-end : finished e σ₁ m ≡ finished ℓ' σ' left = sym (end m σ₁) ∙ sym f ∙ q in (cc, cc)
 finished_as end (inside {σ = σ₁} j f a b) {ℓ'} {σ'} {left} q = let clash : out j σ₁ ≡ finished ℓ' σ' left = sym f ∙ q in let z : ◌≡◌ {A = ℕ} 0 1 = cc in absurd (omega arith)
 
-pub demand_3 : (M : Meaning) (s : Stm) (ℓ n : ℕ) (σ : Store) → Demand-3 M s ℓ n σ
+pub demand_3 : (M : Meaning) (s : Stm) (ℓ n : ℕ) (σ : Store) → Demand3 M s ℓ n σ
 demand_3 M s ℓ n σ =
     let c : Code = compile s ℓ in
     let p = pursues M c s ℓ (piece_contains s ℓ) n σ in

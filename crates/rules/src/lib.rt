@@ -6,54 +6,54 @@
 pub const WIDTH: usize = 4;
 
 // A refusal carries its number and its place.
-#[derive(Drop)]
+#[derive(Clone, Copy)]
 pub struct Refusal {
     pub number: u32,
     pub place: u32,
 }
 
 // Where a code run stands, and how many steps it took.
-#[derive(Drop)]
+#[derive(Clone, Copy)]
 pub struct Halt {
     pub label: u32,
     pub steps: u32,
 }
 
 // How many instructions were written, and the label after them.
-#[derive(Drop)]
+#[derive(Clone, Copy)]
 pub struct Made {
     pub instructions: u32,
     pub end: u32,
 }
 
-#[derive(Drop)]
+#[derive(Clone, Copy)]
 pub enum Checked {
     Done,
     Refused(Refusal),
 }
 
-#[derive(Drop)]
+#[derive(Clone, Copy)]
 pub enum SourceRun {
     Finished(u32),
     OutOfFuel(u32),
     Refused(Refusal),
 }
 
-#[derive(Drop)]
+#[derive(Clone, Copy)]
 pub enum CodeRun {
     Finished(Halt),
     OutOfFuel(Halt),
     Refused(Refusal),
 }
 
-#[derive(Drop)]
+#[derive(Clone, Copy)]
 pub enum Compiled {
     Done(Made),
     Refused(Refusal),
 }
 
 // How many words were read, or how many bytes were written.
-#[derive(Drop)]
+#[derive(Clone, Copy)]
 pub enum Text {
     Done(u32),
     Refused(Refusal),

@@ -19,7 +19,7 @@ use Rattle.grammar.specs.machine.Reader.{step}
 use mathlib.Core.Option.{some}
 use Rattle.tokens.proofs.Steps.{tokens, step_moves}
 use Rattle.tokens.specs.Tables.{acts, moves}
-use Rattle.tokens.specs.Flat.{act, move_at, Form, no_Node, leaf, one, two, three, numbered, form_of, make, arity, sizes}
+use Rattle.tokens.specs.Flat.{act, move_at, Form, no_node, leaf, one, two, three, numbered, form_of, make, arity, sizes}
 use Rattle.tokens.specs.Flat.{sequences, Figure, figure_number, figure_kind}
 use Rattle.tokens.specs.Flat.{Frame, frame, tag_of, closing, closes, waiting_in, waiting_all, Flat, flat, frames_of, nodes_of}
 use Rattle.tokens.specs.Flat.{at_hand, Found, found, seek_by, seek, row_of, left_of, locate, perform, perform_if, performed}
@@ -108,7 +108,7 @@ pub record Grown (before after : List Node) (fewer : ℕ) : Type 0 where
 
 -- there is a node more in all, where one is made
 unfoldable pub adds : Form → ℕ
-adds no_Node = 0
+adds no_node = 0
 adds leaf = 1
 adds one = 1
 adds two = 1
@@ -118,7 +118,7 @@ adds numbered = 1
 pub make_size : (form : Form) (k : Kind) (x : ℕ) (ns : List Node) → arity form ≤ length ns
     → sizes (make form k x ns) ≡ adds form + sizes ns
 unfolding make arity sizes size size_below adds
-make_size no_Node k x ns h = omega arith
+make_size no_node k x ns h = omega arith
 make_size leaf k x ns h = omega arith
 make_size one k x [] h = absurd (omega arith)
 make_size one k x (a ∷ ns) h = omega arith
@@ -135,7 +135,7 @@ make_size numbered k x (a ∷ ns) h = omega arith
 pub make_length : (form : Form) (k : Kind) (x : ℕ) (ns : List Node) → arity form ≤ length ns
     → length (make form k x ns) + arity form ≡ adds form + length ns
 unfolding make arity adds
-make_length no_Node k x ns h = omega arith
+make_length no_node k x ns h = omega arith
 make_length leaf k x ns h = omega arith
 make_length one k x [] h = absurd (omega arith)
 make_length one k x (a ∷ ns) h = omega arith

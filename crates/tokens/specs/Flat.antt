@@ -19,10 +19,10 @@ move_at a i = get_or moves (16 * a + i) 0
 
 -- what a node is made of: nothing, for there is none; a number alone; one to three nodes; a number and a node
 pub data Form : Type 0 where
-  no_Node leaf one two three numbered : Form
+  no_node leaf one two three numbered : Form
 
 unfoldable pub form_of : ℕ → Form
-form_of zero = no_Node
+form_of zero = no_node
 form_of (suc zero) = leaf
 form_of (suc (suc zero)) = one
 form_of (suc (suc (suc zero))) = two
@@ -30,7 +30,7 @@ form_of (suc (suc (suc (suc zero)))) = three
 form_of (suc (suc (suc (suc (suc n))))) = numbered
 
 unfoldable pub make : Form → Kind → ℕ → List Node → List Node
-make no_Node k x ns = ns
+make no_node k x ns = ns
 make leaf k x ns = node k (plain x) (plain 0) (plain 0) ∷ ns
 make one k x (a ∷ ns) = node k (child a) (plain 0) (plain 0) ∷ ns
 make one k x [] = []
@@ -46,7 +46,7 @@ make numbered k x [] = []
 
 -- how many nodes it is made of
 unfoldable pub arity : Form → ℕ
-arity no_Node = 0
+arity no_node = 0
 arity leaf = 0
 arity one = 1
 arity two = 2

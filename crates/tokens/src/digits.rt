@@ -4,7 +4,7 @@ ghost use Rattle.grammar.specs.Spelling.{is_digit};
 ghost use Rattle.grammar.specs.machine.Bytes.{longer};
 ghost use Rattle.tokens.specs.Scan.{DigitsRead};
 
-#[derive(Drop)]
+#[derive(Clone, Copy)]
 pub struct Number {
     pub end: usize,
     pub value: u32,

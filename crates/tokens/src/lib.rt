@@ -19,7 +19,7 @@ use crate::moves::Standing;
 use crate::spelling::Scan;
 
 // A token's kind (29: none, stuck at `end`), its number, where it ends, and its move.
-#[derive(Drop)]
+#[derive(Clone, Copy)]
 pub struct Found {
     pub kind: u32,
     pub number: u32,

@@ -5,7 +5,7 @@ ghost use Rattle.tokens.specs.Flat.{act, level};
 ghost use Rattle.tokens.specs.Arrays.{Acts, RowIs, Sought, Located, Lower, Counted, Opened};
 
 // Where a move is made, and which: 0 none.
-#[derive(Drop)]
+#[derive(Clone, Copy)]
 pub struct Place {
     pub act: u32,
     pub top: usize,

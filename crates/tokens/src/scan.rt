@@ -10,7 +10,7 @@ use crate::spelling::Scan;
 use crate::{digits, moves, spelling};
 
 // How far a fixed token is there, and which is there whole (27: none).
-#[derive(Drop)]
+#[derive(Clone, Copy)]
 pub struct Furthest {
     pub best: usize,
     pub found: u32,

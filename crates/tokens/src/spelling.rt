@@ -6,7 +6,7 @@ ghost use Rattle.tokens.specs.Promise.{WordNext};
 ghost use Rattle.tokens.specs.Quick.{class_of};
 
 // A token's kind (29: none, stuck at `end`), and what it carries.
-#[derive(Drop)]
+#[derive(Clone, Copy)]
 pub struct Scan {
     pub kind: u32,
     pub value: u32,

@@ -3,7 +3,7 @@
 use Rattle.std.specs.Prelude.{◌≡◌, ℕ, zero, suc, ◌+◌, ◌-◌, ◌*◌, ◌<◌, ◌≤◌, max, true, cond, List, [], ◌∷◌, ◌++◌, eqb, length, get_or, take, set}
 use Rattle.rules.specs.Table.{Kind}
 use Rattle.grammar.specs.Written.{Node, kind_number, size, depth, written}
-use Rattle.tokens.specs.Flat.{Form, no_Node, leaf, one, two, three, numbered, form_of, make, arity, sizes, sequences, amount, kind}
+use Rattle.tokens.specs.Flat.{Form, no_node, leaf, one, two, three, numbered, form_of, make, arity, sizes, sequences, amount, kind}
 use Rattle.tokens.specs.Flat.{Frame, frame, tag_of, figure_of, closing, closes, waiting_in, waiting_all}
 use Rattle.tokens.specs.Shape.{tags}
 use Rattle.tokens.specs.Arrays.{stack}
@@ -39,7 +39,7 @@ pub record Room (roots deep words : List ℕ) : Type 0 where
 
 -- its words, where a, b and c are the nodes that it is made of, and the depth below it
 unfoldable pub first : Form → ℕ → ℕ → ℕ
-first no_Node x a = x
+first no_node x a = x
 first leaf x a = x
 first one x a = a
 first two x a = a
@@ -47,7 +47,7 @@ first three x a = a
 first numbered x a = x
 
 unfoldable pub second : Form → ℕ → ℕ → ℕ
-second no_Node a b = 0
+second no_node a b = 0
 second leaf a b = 0
 second one a b = 0
 second two a b = b
@@ -55,7 +55,7 @@ second three a b = b
 second numbered a b = a
 
 unfoldable pub third : Form → ℕ → ℕ
-third no_Node c = 0
+third no_node c = 0
 third leaf c = 0
 third one c = 0
 third two c = 0
@@ -63,7 +63,7 @@ third three c = c
 third numbered c = 0
 
 unfoldable pub below : Form → ℕ → ℕ → ℕ → ℕ
-below no_Node a b c = 0
+below no_node a b c = 0
 below leaf a b c = 0
 below one a b c = a
 below two a b c = max a b
