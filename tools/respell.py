@@ -21,6 +21,7 @@ LEMMAS = (
 )
 TAKEN = {n: n.replace("-", "_") + "_lem" for n in LEMMAS.split()}
 TAKEN |= {"bit-or": "bit_of_or", "bit-xor": "bit_of_xor", "bit_not": "bit_of_not", "orElse": "or_else"}
+TAKEN |= {"Demand-3": "Demand3", "TypedDemand-3": "TypedDemand3", "no_Node": "no_node"}
 # the same in one file alone
 HERE = {
     "crates/rules/proofs/CodeLaws.antt": ["fields_fit", "whole_code"],

@@ -75,7 +75,8 @@ pub(crate) fn after(c: &[u32], k: usize) -> Spot
     let count = c.len() / WIDTH;
     let next = k + 1;
     if next < count {
-        if part(c, next, 0) == label {
+        let bears = part(c, next, 0) == label;
+        if bears {
             return Spot { label, place: next };
         }
     }

@@ -1,0 +1,2 @@
+-- Each export promises what the call behind it promises.
+pub mod Same
