@@ -2,13 +2,14 @@
 use mathlib.Core.Path.{◌≡◌, refl, ap, sym, ◌∙◌}
 use mathlib.Core.Bool.{Bool, true, false, cond}
 use Prim.Native.Nat.{ℕ, zero, suc, ◌+◌, ◌*◌, ◌-◌, ◌/◌, ◌%◌, ◌^◌, ◌<◌, ◌≤◌, max}
-use native.Mathlib.Nat.{one-mul, mod-eq_of_lt, pow-suc, pow-succ', two-pow-succ, div-div-eq-div-mul}
+use native.Mathlib.Nat.{one-mul, mod-eq_of_lt, pow-suc, two-pow-succ}
 use native.Mathlib.Omega.{arith}
-use lib.Pow.{pow-lt, suc_ones}
-use lib.Bits.{bit_and, bit_or, bit_xor, or_step, or_shr, xor_shr, xor_add_and, and_step, and_self, and_mask}
+use lib.Pow.{pow-lt}
+use lib.Bits.{bit_and, bit_or, bit_xor, xor_add_and, and_step, and_self, and_mask}
 use lib.Count.{count_trailing_zeros, under}
 use lib.Dec.{eqb, eqb-suc-suc, eqb-zero-suc, eqb-suc-zero}
 use borrow.Author.Tests.{eqb-true, eqb-false}
+use Rattle.std.proofs.lemmas.Nat.Bits.{bit_at_lowest, bit_at-suc, bit_at-zero, bit_at_or, bit_at_xor, bit_at_ones}
 use Rattle.bits.specs.Bit.{bit, with_bit}
 
 -- ---- a bit by itself
@@ -19,16 +20,16 @@ bit_most w j = omega arith
 
 bit_zero : (w : ℕ) → bit w 0 ≡ w % 2
 unfolding bit
-bit_zero w = omega arith
+bit_zero = bit_at_lowest
 
 bit_suc : (w j : ℕ) → bit w (suc j) ≡ bit (w / 2) j
 unfolding bit
-bit_suc w j = rw (pow-succ' 2 j, ← div-div-eq-div-mul w 2 (2 ^ j))
+bit_suc = bit_at-suc
 
 -- 0 has no bit
 pub no_bit : (j : ℕ) → bit 0 j ≡ 0
-no_bit zero = bit_zero 0
-no_bit (suc j) = bit_suc 0 j ∙ no_bit j
+unfolding bit
+no_bit = bit_at-zero
 
 -- twice a word has its bits one place up
 double_even : (w : ℕ) → bit (w * 2) 0 ≡ 0
@@ -41,12 +42,9 @@ double_up w j =
 
 -- ---- or, and one bit set
 
-or_odd : (a b : ℕ) → bit_or a b % 2 ≡ max (a % 2) (b % 2)
-or_odd a b = rw or_step (omega arith)
-
 pub bit_of_or : (a b j : ℕ) → bit (bit_or a b) j ≡ max (bit a j) (bit b j)
 unfolding bit
-bit_of_or a b j = rw or_shr (or_odd (a / 2 ^ j) (b / 2 ^ j))
+bit_of_or = bit_at_or
 
 -- 2 ^ i has the one bit i
 bit_pow : (i j : ℕ) → bit (2 ^ i) j ≡ cond (eqb j i) 1 0
@@ -65,20 +63,14 @@ shifted j h = rw one-mul (mod-eq_of_lt (pow-lt h))
 
 -- ---- exclusive or, and not
 
-xor_odd : (a b : ℕ) → bit_xor a b % 2 ≡ (a + b) % 2
-xor_odd a b = omega (arith, xor_add_and a b)
-
 pub bit_of_xor : (a b j : ℕ) → bit (bit_xor a b) j ≡ (bit a j + bit b j) % 2
 unfolding bit
-bit_of_xor a b j = rw xor_shr (xor_odd (a / 2 ^ j) (b / 2 ^ j) ∙ omega arith)
+bit_of_xor = bit_at_xor
 
 -- a word of k bits, all of them set
 bit_ones : (k j : ℕ) → j < k → bit (2 ^ k - 1) j ≡ 1
-bit_ones zero j h = absurd (omega arith)
-bit_ones (suc k) zero h = bit_zero (2 ^ suc k - 1) ∙ omega (arith, two-pow-succ k, suc_ones k)
-bit_ones (suc k) (suc j) h =
-    let half : (2 ^ suc k - 1) / 2 ≡ 2 ^ k - 1 = omega (arith, two-pow-succ k, suc_ones k) in
-    bit_suc (2 ^ suc k - 1) j ∙ ap (λ (w : ℕ). bit w j) half ∙ bit_ones k j (omega arith)
+unfolding bit
+bit_ones = bit_at_ones
 
 -- the code's `!w`
 pub bit_of_not : (k w j : ℕ) → w < 2 ^ k → j < k → bit (2 ^ k - 1 - w) j ≡ 1 - bit w j

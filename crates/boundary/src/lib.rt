@@ -2,73 +2,85 @@
 // include/rillgiggle.h has them for C.
 #![tactic(auto)]
 
-ghost use Rattle.std.specs.Prelude.{◌≡◌};
-ghost use Rattle.rules.specs.Answer.{eight, ended, refused, checked_words, compiled_words, source_run_words, code_run_words, text_words};
+ghost use Rattle.std.specs.Prelude.{◌≡◌, ℕ, List};
+ghost use Rattle.rules.specs.Answer.{eight, ended};
 ghost use Rattle.depot.specs.Depot.{lent};
+ghost use Rattle.boundary.specs.inside.Told.{told_by, source_end_words, code_end_words};
 ghost use Rattle.boundary.specs.Calls.{check_call, compile_call, source_call, code_call, depot_call, read_call, write_call, rule_call};
 
-use rules::{Checked, CodeRun, Compiled, Refusal, SourceRun, Text};
+use rules::{End, Halt, Made, Refusal};
 
 // ---- the words of each answer
 
 // The words 5 to 7 are for later requests.
-fn fill(answer: &mut [u32; 8], verdict: u32, number: u32, place: u32, label: u32, amount: u32)
-    ensures { answer.new ≡ eight verdict number place label amount }
+fn eight(verdict: u32, number: u32, place: u32, label: u32, amount: u32) -> [u32; 8]
+    ensures { result ≡ eight verdict number place label amount }
 {
-    *answer = [verdict, number, place, label, amount, 0, 0, 0];
+    [verdict, number, place, label, amount, 0, 0, 0]
 }
 
-fn tell_refused(r: Refusal, answer: &mut [u32; 8])
-    ensures { answer.new ≡ refused r }
-{
-    fill(answer, 3, r.number, r.place, 0, 0);
+// What a call has done, as words. A refusal is told alike by all calls.
+trait Told {
+    ghost words: { Self → List ℕ };
+
+    fn words(self) -> [u32; 8]
+        ensures { result ≡ words self };
 }
 
-fn tell_checked(checked: Checked, answer: &mut [u32; 8])
-    ensures { answer.new ≡ checked_words checked }
-{
-    match checked {
-        Checked::Done => fill(answer, 0, 0, 0, 0, 0),
-        Checked::Refused(r) => tell_refused(r, answer),
+impl Told for () {
+    ghost words = { λ done. eight 0 0 0 0 0 };
+
+    fn words(self) -> [u32; 8] {
+        eight(0, 0, 0, 0, 0)
     }
 }
 
-fn tell_compiled(compiled: Compiled, answer: &mut [u32; 8])
-    ensures { answer.new ≡ compiled_words compiled }
-{
-    match compiled {
-        Compiled::Done(made) => fill(answer, 0, 0, 0, made.end, made.instructions),
-        Compiled::Refused(r) => tell_refused(r, answer),
+impl Told for Made {
+    ghost words = { λ made. eight 0 0 0 made.end made.instructions };
+
+    fn words(self) -> [u32; 8] {
+        eight(0, 0, 0, self.end, self.instructions)
     }
 }
 
-fn tell_source_run(run: SourceRun, answer: &mut [u32; 8])
-    ensures { answer.new ≡ source_run_words run }
-{
-    match run {
-        SourceRun::Finished(steps) => fill(answer, 1, 0, 0, 0, steps),
-        SourceRun::OutOfFuel(steps) => fill(answer, 2, 0, 0, 0, steps),
-        SourceRun::Refused(r) => tell_refused(r, answer),
+impl Told for End<u32> {
+    ghost words = { source_end_words };
+
+    fn words(self) -> [u32; 8] {
+        match self {
+            End::Finished(steps) => eight(1, 0, 0, 0, steps),
+            End::OutOfFuel(steps) => eight(2, 0, 0, 0, steps),
+        }
     }
 }
 
-fn tell_code_run(run: CodeRun, answer: &mut [u32; 8])
-    ensures { answer.new ≡ code_run_words run }
-{
-    match run {
-        CodeRun::Finished(halt) => fill(answer, 1, 0, 0, halt.label, halt.steps),
-        CodeRun::OutOfFuel(halt) => fill(answer, 2, 0, 0, halt.label, halt.steps),
-        CodeRun::Refused(r) => tell_refused(r, answer),
+impl Told for End<Halt> {
+    ghost words = { code_end_words };
+
+    fn words(self) -> [u32; 8] {
+        match self {
+            End::Finished(halt) => eight(1, 0, 0, halt.label, halt.steps),
+            End::OutOfFuel(halt) => eight(2, 0, 0, halt.label, halt.steps),
+        }
     }
 }
 
-fn tell_text(text: Text, answer: &mut [u32; 8])
-    ensures { answer.new ≡ text_words text }
-{
-    match text {
-        Text::Done(amount) => fill(answer, 0, 0, 0, 0, amount),
-        Text::Refused(r) => tell_refused(r, answer),
+// How many words or bytes were written.
+impl Told for u32 {
+    ghost words = { λ amount. eight 0 0 0 0 amount };
+
+    fn words(self) -> [u32; 8] {
+        eight(0, 0, 0, 0, self)
     }
+}
+
+fn tell<T: Told>(told: Result<T, Refusal>, answer: &mut [u32; 8])
+    ensures { answer.new ≡ told_by T.words told }
+{
+    *answer = match told {
+        Ok(done) => done.words(),
+        Err(r) => eight(3, r.reason.number(), r.place, 0, 0),
+    };
 }
 
 // ---- the calls
@@ -77,21 +89,21 @@ pub fn rill_check(table: &[u32], answer: &mut [u32; 8])
     ensures { answer.new ≡ check_call table.now }
 {
     let checked = table::check(table);
-    tell_checked(checked, answer);
+    tell(checked, answer);
 }
 
 pub fn rill_compile(table: &[u32], start: u32, room: &mut [u32], answer: &mut [u32; 8])
     ensures { ended answer.new room.new ≡ compile_call table.now start room.old }
 {
     let compiled = compiler::compile(table, start, room);
-    tell_compiled(compiled, answer);
+    tell(compiled, answer);
 }
 
 pub fn rill_run_source(table: &[u32], store: &mut [i32], fuel: u32, answer: &mut [u32; 8])
     ensures { ended answer.new store.new ≡ source_call table.now store.old fuel }
 {
     let run = source::run_source(table, store, fuel);
-    tell_source_run(run, answer);
+    tell(run, answer);
 }
 
 pub fn rill_run_code(
@@ -105,7 +117,7 @@ pub fn rill_run_code(
     ensures { ended answer.new store.new ≡ code_call table.now code.now start store.old fuel }
 {
     let run = code::run_code(table, code, start, store, fuel);
-    tell_code_run(run, answer);
+    tell(run, answer);
 }
 
 pub fn rill_run_depot(
@@ -121,26 +133,26 @@ pub fn rill_run_depot(
         ≡ depot_call table.now code.now start stores.old fuel room.old }
 {
     let ran = depot::run_depot(table, code, start, stores, fuel, room);
-    tell_checked(ran, answer);
+    tell(ran, answer);
 }
 
 pub fn rill_read_text(text: &[u8], room: &mut [u32], answer: &mut [u32; 8])
     ensures { ended answer.new room.new ≡ read_call text.now room.old }
 {
     let read = reading::read_text(text, room);
-    tell_text(read, answer);
+    tell(read, answer);
 }
 
 pub fn rill_write_text(words: &[u32], room: &mut [u8], answer: &mut [u32; 8])
     ensures { ended answer.new room.new ≡ write_call words.now room.old }
 {
     let written = writing::write_text(words, room);
-    tell_text(written, answer);
+    tell(written, answer);
 }
 
 pub fn rill_read_rule(text: &[u8], room: &mut [u32], answer: &mut [u32; 8])
     ensures { ended answer.new room.new ≡ rule_call text.now room.old }
 {
     let typed = rule::read_rule(text, room);
-    tell_text(typed, answer);
+    tell(typed, answer);
 }

@@ -1,4 +1,4 @@
--- Where a label stands in code whose labels rise: at a position that bears it, or nowhere; and how halving closes in on it.
+-- Where a label stands in code whose labels rise: at an instruction that bears it, or nowhere; and how halving closes in on it.
 use mathlib.Core.Path.{◌≡◌}
 use mathlib.Core.Logic.{⊎_elim}
 use mathlib.Core.List.{List}
@@ -6,30 +6,15 @@ use Prim.Native.Nat.{ℕ, ◌+◌, ◌<◌, ◌≤◌}
 use native.Mathlib.Nat.{eq-or-lt_of_le}
 use native.Mathlib.Omega.{arith}
 use Rattle.rules.specs.CodeWords.{part, instructions, Rising}
-use Rattle.code.specs.inside.Running.{Place}
-
--- a label that no instruction bears
-pub nowhere : (c : List ℕ) {ℓ : ℕ} → ((j : ℕ) → j < instructions c → part c j 0 ≡ ℓ → ⊥) → Place c ℓ (instructions c)
-nowhere c free = record { found = λ h. absurd (omega arith); absent = λ h. free }
+use Rattle.code.specs.inside.Running.{Bears}
 
 module _ (c : List ℕ) (rising : Rising c) where
   -- labels do not fall
   apart : (j k : ℕ) → j ≤ k → k < instructions c → part c j 0 ≤ part c k 0
   apart j k h l = ⊎_elim (λ (e : j ≡ k). rw e (omega arith)) (λ (m : j < k). omega (arith, rising j k m l)) (eq-or-lt_of_le h)
 
-  pub below_first : {ℓ : ℕ} → ℓ < part c 0 0 → Place c ℓ (instructions c)
-  below_first h = nowhere c (λ j l e. omega (arith, apart 0 j (omega arith) l))
-
-  -- the label after that of instruction k is borne by the next instruction or by none
-  pub not_next : (k : ℕ) → (k + 1 < instructions c → part c (k + 1) 0 ≡ part c k 0 + 1 → ⊥) → k < instructions c
-      → Place c (part c k 0 + 1) (instructions c)
-  not_next k other h = nowhere c (λ j l e. let up-to-k : j ≤ k → ⊥ = λ m. omega (arith, apart j k m h) in past j l e (omega arith))
-    where
-      past : (j : ℕ) → j < instructions c → part c j 0 ≡ part c k 0 + 1 → k + 1 ≤ j → ⊥
-      past j l e a =
-          let higher : part c k 0 < part c (k + 1) 0 = rising k (k + 1) (omega arith) (omega arith) in
-          let lower : part c (k + 1) 0 ≤ part c j 0 = apart (k + 1) j a l in
-          other (omega arith) (omega arith)
+  pub below_first : {ℓ : ℕ} → ℓ < part c 0 0 → (j : ℕ) → Bears c ℓ j → ⊥
+  below_first h j b = omega (arith, b.label, apart 0 j (omega arith) b.inside)
 
 -- ---- halving: ℓ stands from low up to high, or nowhere
 
@@ -44,11 +29,10 @@ module _ (c : List ℕ) {ℓ : ℕ} where
   anywhere = record { ordered = omega arith; within = omega arith; below = λ j h. absurd (omega arith); above = λ j h l. absurd (omega arith) }
 
   module _ {low high : ℕ} (between : Between c ℓ low high) where
-    pub closed : high ≤ low → Place c ℓ (instructions c)
-    closed h =
-        nowhere c (λ j l e.
-        let not-below : j < low → ⊥ = λ m. omega (arith, between.below j m) in
-        omega (arith, between.above j (omega arith) l))
+    pub closed : high ≤ low → (j : ℕ) → Bears c ℓ j → ⊥
+    closed h j b =
+        let not-below : j < low → ⊥ = λ m. omega (arith, b.label, between.below j m) in
+        omega (arith, b.label, between.above j (omega arith) b.inside)
 
     module _ (rising : Rising c) (middle : ℕ) (from : low ≤ middle) (to : middle < high) where
       pub raised : part c middle 0 < ℓ → Between c ℓ (middle + 1) high

@@ -5,11 +5,11 @@ use mathlib.Core.List.{List}
 use Prim.Native.Nat.{ℕ, ◌+◌, ◌<◌, ◌≤◌}
 use lib.IntN.{ℤ}
 use lib.ListN.{set}
+use Rattle.std.specs.Prelude.{Option}
 use Rattle.rules.specs.Expression.{Store}
 use Rattle.rules.specs.Goto.{Instr, ◌≔◌, goto, ifnot, next_label, next_store}
 use Rattle.rules.specs.Table.{arithmetic, boolean, Class, meaning}
-use Rattle.rules.specs.CodeWords.{part, instructions, instr_of}
-use Rattle.rules.specs.CodeWords.{Rising, instr_at}
+use Rattle.rules.specs.CodeWords.{part, instructions, instr_of, instr_at}
 use Rattle.rules.proofs.FetchLaws.{Node, Fields, CodeFacts, code_facts, assign_fields, test_fields, assign_instr, jump_instr, test_instr}
 use Rattle.evaluate.specs.Ready.{Ready}
 use Rattle.code.specs.inside.Running.{Place, Stands, Stepped}
@@ -24,11 +24,8 @@ module _ {t c : List ℕ} {k : ℕ} {σ : Store} (stands : Stands t c k σ) wher
   facts : CodeFacts t c
   facts = code_facts t c stands.admitted.code
 
-  pub rising : Rising c
-  rising = facts.rising
-
-  pub goes_on : Rising c × (k < instructions c) × (part c k 0 ≤ 65534)
-  goes_on = (facts.rising, stands.inside, facts.label k stands.inside)
+  pub goes_on : (k < instructions c) × (part c k 0 ≤ 65534)
+  goes_on = (stands.inside, facts.label k stands.inside)
 
   ready : {n : ℕ} {d : Class} → Node t d n → Ready t n d
   ready node = record { accepted = stands.admitted.table; inside = node.inside; class = node.class }
@@ -46,7 +43,7 @@ module _ {t c : List ℕ} {k : ℕ} {σ : Store} (stands : Stands t c k σ) wher
     pub can_test : (o ≡ 1 → ⊥) → (o ≡ 2 → ⊥) → Ready t x boolean
     can_test p q = ready (test_fields fields p q).0
 
-    module _ {ℓ place : ℕ} where
+    module _ {ℓ : ℕ} {place : Option ℕ} where
       -- what the instruction i leaves
       by : {m : ℕ} {σ' : Store} (i : Instr) → instr_of o x y ≡ i → m ≡ next_label (meaning t) i (part c k 0) σ → σ' ≡ next_store (meaning t) i σ
           → (ℓ ≡ m) × Place c m place → Stepped t c k σ ℓ place σ'

@@ -1,9 +1,10 @@
 // The code run: the steps of Fig. 1 within fuel, on a table, code, start label and store that are checked first.
+// A word becomes a place by `as`: there is no `From` between `u32` and `usize`.
 #![tactic(auto)]
 
 mod labels;
 
-ghost use Rattle.std.specs.Prelude.{◌≡◌};
+ghost use Rattle.std.specs.Prelude.{◌≡◌, Ok};
 ghost use Rattle.std.proofs.Math.Option.{none};
 ghost use Rattle.rules.specs.Answer.{ended};
 ghost use Rattle.rules.specs.Goto.{run};
@@ -12,53 +13,58 @@ ghost use Rattle.rules.specs.CodeWords.{code_of};
 ghost use Rattle.code.specs.CodeRun.{code_run_refusal, code_end, code_run};
 ghost use Rattle.code.specs.inside.Running.{Admitted, Stands, Stepped};
 
+use labels::{Code, Spot};
 use lent::{part, put_back, taken};
-use rules::{Checked, CodeRun, Halt, WIDTH};
+use rules::{End, Halt, Refusal};
+
+// The operations of instructions, as their words have them. The third is the test.
+const ASSIGN: u32 = 1;
+
+const GOTO: u32 = 2;
 
 // One step of Fig. 1, by instruction k.
-fn step(t: &&[u32], c: &[u32], k: usize, store: &mut [i32; 32]) -> labels::Spot
-    requires { Stands t.now.now c.now k store.old }
-    ensures { Stepped t.now.now c.now k store.old result.label result.place store.new }
+fn step(t: &&[u32], c: &Code, k: usize, store: &mut [i32; 32]) -> Spot
+    requires { Stands t.now.now c.now.words.now k store.old }
+    ensures { Stepped t.now.now c.now.words.now k store.old result.label result.place store.new }
 {
-    let o = part(c, k, 1);
-    let x = part(c, k, 2) as usize;
-    let y = part(c, k, 3);
+    let o = part(c.words, k, 1);
+    let x = part(c.words, k, 2) as usize;
+    let y = part(c.words, k, 3);
     match o {
-        1 => {
+        ASSIGN => {
             let v = evaluate::value_of(t, store, y as usize);
             store[x] = v;
-            labels::after(c, k)
+            c.after(k)
         }
-        2 => labels::jump(c, y),
+        GOTO => c.jump(y),
         _ => {
             if evaluate::truth_of(t, store, x) {
-                labels::after(c, k)
+                c.after(k)
             } else {
-                labels::jump(c, y)
+                c.jump(y)
             }
         }
     }
 }
 
 // The run from a label: one unit of fuel a turn, the finish tested before the fuel.
-fn run_from(t: &&[u32], c: &[u32], start: u32, store: &mut [i32; 32], fuel: u32) -> CodeRun
+fn run_from(t: &&[u32], c: &[u32], start: u32, store: &mut [i32; 32], fuel: u32) -> End<Halt>
     requires { Admitted t.now.now c.now store.old }
-    ensures { ended result store.new ≡ code_end fuel (run (meaning t.now.now) (code_of c.now) fuel start store.old) }
+    ensures { ended (Ok result) store.new ≡ code_end fuel (run (meaning t.now.now) (code_of c.now) fuel start store.old) }
 {
-    let count = c.len() / WIDTH;
-    let mut label = start;
-    let mut place = labels::find(c, start);
+    let code = Code { words: c };
+    let mut at = code.jump(start);
     let mut steps = 0;
-    while place < count {
+    while let Some(k) = at.place {
+        let label = at.label;
         if steps == fuel {
-            return CodeRun::OutOfFuel(Halt { label, steps });
+            return End::OutOfFuel(Halt { label, steps });
         }
-        let next = step(t, c, place, store);
-        label = next.label;
-        place = next.place;
+        at = step(t, &code, k, store);
         steps += 1;
     }
-    CodeRun::Finished(Halt { label, steps })
+    let label = at.label;
+    End::Finished(Halt { label, steps })
 }
 
 // The code run behind its checks, on the lent store, which is taken at the start and put back at the end. It asks (`requires`) that the checks
@@ -69,9 +75,9 @@ pub fn run_admitted(
     start: u32,
     store: &mut [i32],
     fuel: u32,
-) -> CodeRun
+) -> End<Halt>
     requires { code_run_refusal table.now code.now start store.old ≡ none }
-    ensures { ended result store.new ≡ code_run table.now code.now start store.old fuel }
+    ensures { ended (Ok result) store.new ≡ code_run table.now code.now start store.old fuel }
 {
     let words = table;
     let mut values = taken(store);
@@ -81,12 +87,15 @@ pub fn run_admitted(
 }
 
 // The steps of the code from the start label, on the store.
-pub fn run_code(table: &[u32], code: &[u32], start: u32, store: &mut [i32], fuel: u32) -> CodeRun
+pub fn run_code(
+    table: &[u32],
+    code: &[u32],
+    start: u32,
+    store: &mut [i32],
+    fuel: u32,
+) -> Result<End<Halt>, Refusal>
     ensures { ended result store.new ≡ code_run table.now code.now start store.old fuel }
 {
-    let admitted = instructions::admit(table, code, start, store.len() == 32);
-    match admitted {
-        Checked::Refused(r) => CodeRun::Refused(r),
-        Checked::Done => run_admitted(table, code, start, store, fuel),
-    }
+    instructions::admit(table, code, start, store.len() == 32)?;
+    Ok(run_admitted(table, code, start, store, fuel))
 }

@@ -3,8 +3,10 @@
 use mathlib.Core.Path.{◌≡◌, refl, ap, sym, ◌∙◌}
 use mathlib.Core.Bool.{Bool, true, false, cond}
 use mathlib.Core.List.{List, ◌++◌}
-use Prim.Native.Nat.{ℕ, suc, ◌+◌, ◌*◌, ◌/◌, ◌%◌, ◌<◌, ◌≤◌}
-use lib.ListN.{length, get_or}
+use Prim.Native.Nat.{ℕ, ◌+◌, ◌*◌, ◌%◌, ◌<◌, ◌≤◌}
+use lib.ListN.{length, get_or, drop, length-append, length-drop, get_or-append}
+use lib.Seq.{drop_at, drop-drop, get_or-drop}
+use native.Mathlib.Numerals.{add-one}
 use native.Mathlib.Omega.{arith}
 use lib.Dec.{eqb, ltb}
 use borrow.Author.Tests.{eqb-true, ne_eqb, ltb-true, ltb-false}
@@ -99,39 +101,42 @@ adds_by_lem k = go (ltb k 37) refl
 
 -- ---- the count on its way
 
--- `at` is the first word of a node, or the end, and total is what the nodes before it add
-pub record SoFar (t : List ℕ) (total at : ℕ) : Type 0 where
+-- what is left of the table are its nodes from k on, and total is what the nodes before them add
+pub record SoFar (t : List ℕ) (total k : ℕ) (left : List ℕ) : Type 0 where
   pub whole : length t % 4 ≡ 0
   pub few : length t ≤ 4096
-  pub at_node : at % 4 ≡ 0
-  pub inside : at ≤ length t
-  pub sum_is : total ≡ counted (λ n. adds (kind_at t n)) (at / 4)
-  pub small : total ≤ 2 * at
+  pub inside : 4 * k ≤ length t
+  pub left_is : left ≡ drop (4 * k) t
+  pub sum_is : total ≡ counted (λ n. adds (kind_at t n)) k
+  pub small : total ≤ 5 * k
 
 module _ (t : List ℕ) where
-  pub count_begins : Facts t → SoFar t 0 0
+  pub count_begins : Facts t → SoFar t 0 0 t
   unfolding counted
   count_begins f =
       let whole : 4 * nodes t ≡ length t = f.whole in
       let few : nodes t ≤ 1024 = f.few in
-      record { whole = omega arith; few = omega arith; at_node = refl; inside = omega arith; sum_is = refl; small = omega arith }
+      record { whole = omega arith; few = omega arith; inside = omega arith; left_is = refl; sum_is = refl; small = omega arith }
 
-  pub count_goes_on : {total at a : ℕ} → SoFar t total at → at < length t → a ≡ adds (kind_of (get_or t at 0)) → a ≤ 5
-      → SoFar t (total + a) (at + 4)
+  pub count_goes_on : {total k a : ℕ} {left behind : List ℕ} (node : List ℕ) → SoFar t total k left → left ≡ node ++ behind → length node ≡ 4
+      → a ≡ adds (kind_of (get_or node 0 0)) → a ≤ 5 → SoFar t (total + a) (k + 1) behind
   unfolding counted
-  count_goes_on {total} {at} {a} s l e h =
-      let next : (at + 4) / 4 ≡ suc (at / 4) = omega arith in
-      let place : 4 * (at / 4) + 0 ≡ at = omega (arith, s.at_node) in
+  count_goes_on {total} {k} {a} {left} {behind} node s e long is_a h =
+      let cut : drop (4 * k) t ≡ node ++ behind = sym s.left_is ∙ e in
+      let enough : 4 ≤ length (drop (4 * k) t) = rw (cut, length-append) (omega arith) in
+      let kind : get_or node 0 0 ≡ field t k 0 =
+      sym (get_or-append node behind 0 0 (omega arith)) ∙ ap (λ (l : List ℕ). get_or l 0 0) (sym cut) ∙ get_or-drop (4 * k) t 0 0 in
       record {
         whole = s.whole;
         few = s.few;
-        at_node = omega arith;
-        inside = omega arith;
-        sum_is = rw (next, place) (omega (arith, s.sum_is));
+        inside = omega (arith, enough, length-drop (4 * k) t);
+        left_is = sym (drop_at node behind 4 long) ∙ ap (drop 4) (sym cut) ∙ drop-drop 4 (4 * k) t ∙ ap (λ (j : ℕ). drop j t) (omega arith);
+        sum_is = rw (add-one, ← kind) (omega (arith, s.sum_is));
         small = omega arith;
       }
 
-  pub count_ends : {total at : ℕ} → Facts t → SoFar t total at → length t ≤ at → total ≡ size (program t)
-  count_ends {total} {at} f s l =
-      let all : at / 4 ≡ nodes t = omega (arith, s.inside) in
+  pub count_ends : {total k : ℕ} {left : List ℕ} → Facts t → SoFar t total k left → length left < 4 → total ≡ size (program t)
+  count_ends {total} {k} f s l =
+      let short : length (drop (4 * k) t) < 4 = rw (← s.left_is) l in
+      let all : k ≡ nodes t = omega (arith, short, length-drop (4 * k) t, s.whole, s.inside) in
       s.sum_is ∙ ap (counted (λ n. adds (kind_at t n))) all ∙ counted_size t f

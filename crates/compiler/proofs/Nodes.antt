@@ -31,12 +31,13 @@ pub record Sized (t : List ℕ) (n start room i : ℕ) (s : Stm) : Type 0 where
 pub record SequenceAt (t : List ℕ) (n start room i p q : ℕ) : Type 0 where
   pub sized : Sized t n start room i (Stm.seq (stm_at t p) (stm_at t q))
   pub first : Part t n p start room i
-  pub second : (m : ℕ) → m ≡ i + size (stm_at t p) → (room' : ℕ) → room' ≡ room → Part t n q start room' m
+  pub second : (m : ℕ) → m ≡ i + size (stm_at t p) → (start' : ℕ) → start' ≡ start → (room' : ℕ) → room' ≡ room → Part t n q start' room' m
 
 pub record IfAt (t : List ℕ) (n start room i b p q : ℕ) : Type 0 where
   pub sized : Sized t n start room i (Stm.if b (stm_at t p) (stm_at t q))
   pub then_branch : Part t n p start room (i + 1)
-  pub else_branch : (m : ℕ) → m ≡ i + 1 + size (stm_at t p) → (room' : ℕ) → room' ≡ room → Part t n q start room' (m + 1)
+  pub else_branch : (m : ℕ) → m ≡ i + 1 + size (stm_at t p) → (start' : ℕ) → start' ≡ start → (room' : ℕ) → room' ≡ room
+      → Part t n q start' room' (m + 1)
 
 pub record WhileAt (t : List ℕ) (n start room i b p : ℕ) : Type 0 where
   pub sized : Sized t n start room i (Stm.while b (stm_at t p))
@@ -52,9 +53,9 @@ module _ {t : List ℕ} {n start room i : ℕ} (f : Fits t n start room i) where
   sized_as : (s : Stm) → stm_at t n ≡ s → Sized t n start room i s
   sized_as s e = record { stm = e; labels = rw (← e) f.labels; words = rw (← e) f.words }
 
-  part_at : (p j room' : ℕ) → Child t n statement p → room' ≡ room → j + size (stm_at t p) ≤ i + size (stm_at t n)
-      → Part t n p start room' j
-  part_at p j room' c e h =
+  part_at : (p j start' room' : ℕ) → Child t n statement p → start' ≡ start → room' ≡ room → j + size (stm_at t p) ≤ i + size (stm_at t n)
+      → Part t n p start' room' j
+  part_at p j start' room' c s e h =
       let l : p < n = c.below in
       let in_all : n < nodes t = f.inside in
       record {
@@ -84,8 +85,8 @@ module _ {t : List ℕ} {n start room i : ℕ} (f : Fits t n start room i) where
         let z : size (stm_at t n) ≡ size (stm_at t p) + size (stm_at t q) = ap size s.stm in
         record {
           sized = s;
-          first = part_at p i room v.first refl (omega arith);
-          second = λ m h room' k. part_at q m room' v.second k (omega arith);
+          first = part_at p i start room v.first refl refl (omega arith);
+          second = λ m h start' l room' k. part_at q m start' room' v.second l k (omega arith);
         }
 
     pub if_at : w ≡ 35 → IfAt t n start room i p q r
@@ -96,8 +97,8 @@ module _ {t : List ℕ} {n start room i : ℕ} (f : Fits t n start room i) where
         let z : size (stm_at t n) ≡ size (stm_at t q) + size (stm_at t r) + 2 = ap size s.stm in
         record {
           sized = s;
-          then_branch = part_at q (i + 1) room v.second refl (omega arith);
-          else_branch = λ m h room' k. part_at r (m + 1) room' v.third k (omega arith);
+          then_branch = part_at q (i + 1) start room v.second refl refl (omega arith);
+          else_branch = λ m h start' l room' k. part_at r (m + 1) start' room' v.third l k (omega arith);
         }
 
     pub while_at : w ≡ 36 → WhileAt t n start room i p q
@@ -106,7 +107,7 @@ module _ {t : List ℕ} {n start room i : ℕ} (f : Fits t n start room i) where
         let v = node_is while (ap kind_of e) in
         let s : Sized t n start room i (Stm.while p (stm_at t q)) = sized_as _ (stm_as v) in
         let z : size (stm_at t n) ≡ size (stm_at t q) + 2 = ap size s.stm in
-        record { sized = s; body = part_at q (i + 1) room v.second refl (omega arith) }
+        record { sized = s; body = part_at q (i + 1) start room v.second refl refl (omega arith) }
 
     pub skip_at : (w ≡ 33 → ⊥) → (w ≡ 34 → ⊥) → (w ≡ 35 → ⊥) → (w ≡ 36 → ⊥) → stm_at t n ≡ Stm.skip
     unfolding kind_of fetch tree_by

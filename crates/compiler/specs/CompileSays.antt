@@ -1,5 +1,5 @@
 -- Demand 2 for compilation: what an answer of `compile`, with the room after it, says of the compilation rules (001, Fig. 5).
-use Rattle.std.specs.Prelude.{◌≡◌, List, ℕ, ◌*◌, length, take, drop}
+use Rattle.std.specs.Prelude.{◌≡◌, List, ℕ, ◌*◌, length, take, drop, Ok, Err}
 use Rattle.std.proofs.Math.Option.{none, some}
 use Rattle.rules.specs.SGoto.{SCode, U}
 use Rattle.rules.specs.Compilation.{Compiles}
@@ -7,8 +7,8 @@ use Rattle.rules.specs.Table.{program}
 use Rattle.rules.specs.CodeWords.{width, code_of, code_refusal}
 use Rattle.rules.specs.declared.Refusal.{Refusal}
 use Rattle.rules.specs.declared.Made.{Made}
-use Rattle.rules.specs.declared.Compiled.{Compiled}
 use Rattle.compiler.specs.Compiling.{compile_refusal}
+use Rattle.rules.specs.Answer.{Answer}
 
 -- the words that were written, m.instructions frames from the front on
 abbrev pub written : Made → List ℕ → List ℕ
@@ -24,8 +24,8 @@ pub record Prescribed (t : List ℕ) (start : ℕ) (room : List ℕ) (m : Made) 
   pub same_length : length after ≡ length room
 
 -- of a table, a start label and a room
-pub data CompileSays (t : List ℕ) (start : ℕ) (room : List ℕ) : Compiled → List ℕ → Type 0 where
+pub data CompileSays (t : List ℕ) (start : ℕ) (room : List ℕ) : Answer Made → List ℕ → Type 0 where
   -- a refusal is the first of 1 to 9, 11 and 12 that the input earns, and leaves the room alone
-  refused : (r : Refusal) → compile_refusal t start (length room) ≡ some r → CompileSays t start room (Compiled.Refused r) room
+  refused : (r : Refusal) → compile_refusal t start (length room) ≡ some r → CompileSays t start room (Err r) room
   done : {m : Made} {after : List ℕ} → compile_refusal t start (length room) ≡ none → Prescribed t start room m after
-      → CompileSays t start room (Compiled.Done m) after
+      → CompileSays t start room (Ok m) after

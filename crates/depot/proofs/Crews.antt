@@ -14,8 +14,7 @@ use Rattle.rules.specs.Goto as goto
 use Rattle.rules.specs.Goto.{Halted, out, run}
 use Rattle.rules.specs.Table.{meaning}
 use Rattle.rules.specs.CodeWords.{code_of}
-use Rattle.rules.specs.Answer.{ended}
-use Rattle.rules.specs.declared.CodeRun.{CodeRun}
+use Rattle.rules.specs.Answer.{ended, Answer}
 use Rattle.rules.proofs.EndedLaws.{answer_is, after_is, ends_unrefused}
 use Rattle.rules.proofs.ListLaws.{length_joined, drop_sets, sets_whole, sets_part, sets_joined}
 use Rattle.code.specs.CodeRun.{code_run_refusal, code_end, code_run}
@@ -23,6 +22,8 @@ use Rattle.code.proofs.Along.{after_length}
 use Rattle.depot.specs.Depot.{crews, crew, crew_words, lent, crew_run, crews_run}
 use Rattle.depot.specs.inside.Ready.{Ready}
 use Rattle.depot.proofs.Refusals.{crew_length}
+use Rattle.rules.specs.declared.End.{End}
+use Rattle.rules.specs.declared.Halt.{Halt}
 
 -- a run that is not refused has three words
 end_words : (n : ℕ) (h : Halted) → length (crew_words (code_end n h).answer) ≡ 3
@@ -55,7 +56,7 @@ module _ (t c : List ℕ) (start : ℕ) (stores₀ : List ℤ) (fuel : ℕ) wher
       pub told_length : (i : ℕ) → i < crews stores₀ → length (told i) ≡ 3
       unfolding code_run
       told_length i h =
-          rw (ends_unrefused CodeRun.Refused _ (crew stores₀ i) (code_end fuel (run (meaning t) (code_of c) fuel start (crew stores₀ i)))
+          rw (ends_unrefused _ (crew stores₀ i) (code_end fuel (run (meaning t) (code_of c) fuel start (crew stores₀ i)))
           (ok.unrefused i h))
           (end_words fuel (run (meaning t) (code_of c) fuel start (crew stores₀ i)))
 
@@ -85,25 +86,30 @@ module _ (t c : List ℕ) (start : ℕ) (stores₀ : List ℤ) (fuel : ℕ) wher
           next_unrefused = rw (starts, long, next_crew) (ok.unrefused i more)
 
           -- crew i has run on its part, and its words are written
-          pub one_more : {at : ℕ} {r : CodeRun} {σ : Store} → at ≡ 3 * i → ended r σ ≡ code_run t c start (take n (drop from stores)) fuel
-              → Gone (i + 1) (take from stores ++ (σ ++ drop n (drop from stores))) (sets room at (crew_words r))
-          one_more {at} {r} {σ} row met = rw (starts, row, long) (go (rw (starts, long, next_crew) at met))
+          pub one_more : {at m : ℕ} {r : Answer (End Halt)} {σ : Store} → at ≡ 3 * i → m ≡ 3
+              → ended r σ ≡ code_run t c start (take n (drop from stores)) fuel
+              → Gone (i + 1) (take from stores ++ (σ ++ drop n (drop from stores))) (take at room ++ (crew_words r ++ drop m (drop at room)))
+          one_more {at} {m} {r} {σ} row three met = rw (starts, row, long, three) (go (rw (starts, long, next_crew) at met))
             where
               -- one block more
               put : {A : Type 0} (f : ℕ → List A) (l : List A) (m : ℕ) → length (joined f i) ≡ m
                   → sets (sets l 0 (joined f i)) m (f i) ≡ sets l 0 (joined f (i + 1))
               put f l m front = ap (λ (j : ℕ). sets (sets l 0 (joined f i)) j (f i)) (omega arith) ∙ sets_joined f l 0 m i front
 
-              go : ended r σ ≡ code_run t c start (crew stores₀ i) fuel
-                  → Gone (i + 1) (take (32 * i) stores ++ (σ ++ drop 32 (drop (32 * i) stores))) (sets room (3 * i) (crew_words r))
-              go run =
+              go : {r : Answer (End Halt)} {σ : Store} → ended r σ ≡ code_run t c start (crew stores₀ i) fuel
+                  → Gone (i + 1) (take (32 * i) stores ++ (σ ++ drop 32 (drop (32 * i) stores)))
+                  (take (3 * i) room ++ (crew_words r ++ drop 3 (drop (3 * i) room)))
+              go {r} {σ} run =
                   let values : length σ ≡ 32 = rw (after_is run) (left_length i more) in
                   let fits : 32 * i + 32 ≤ length stores = omega (arith, same_stores, ok.whole) in
+                  let words : length (crew_words r) ≡ 3 = rw (answer_is run) (told_length i more) in
+                  let enough : 3 * i + 3 ≤ length room = omega (arith, same_room, ok.enough) in
                   record {
                     within = omega arith;
                     stores_are = sets_part σ stores (32 * i) 32 values fits
                         ∙ rw (gone.stores_are, after_is run) (put left stores₀ (32 * i) (stores_length i gone.within));
-                    room_is = rw (gone.room_is, answer_is run) (put told room₀ (3 * i) (room_length i gone.within));
+                    room_is = sets_part (crew_words r) room (3 * i) 3 words enough
+                        ∙ rw (gone.room_is, answer_is run) (put told room₀ (3 * i) (room_length i gone.within));
                   }
 
         -- all have gone

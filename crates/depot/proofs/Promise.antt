@@ -11,9 +11,8 @@ use borrow.Fn.Kinds.{Dens, ended_of}
 use lib.IntN.{ℤ}
 use lib.ListN.{length, take, drop}
 use Rattle.rules.specs.Lists.{joined}
-use Rattle.rules.specs.Answer.{Ended, ended, unless_refused}
+use Rattle.rules.specs.Answer.{Ended, ended, unless_refused, Answer}
 use Rattle.rules.specs.declared.Refusal.{Refusal}
-use Rattle.rules.specs.declared.Checked.{Checked}
 use Rattle.rules.proofs.EndedLaws.{answer_is, after_is, one_end, ends_refused, ends_unrefused}
 use Rattle.rules.proofs.ListLaws.{block_of_joined, block_of_sets, drop_sets}
 use Rattle.table.specs.Checking.{answer}
@@ -26,13 +25,14 @@ use Rattle.depot.proofs.Crews.{left, told, left_length, told_length, stores_leng
 use Rattle.depot.proofs.Refusals.{ten_only_if, ten_if, sixteen_only_if, sixteen_if, done_only_if, done_if, ready}
 use Rattle.depot.proofs.run_depot.Kinds.{ps, r}
 use Rattle.depot.proofs.run_depot.Reads.{Post}
+use Rattle.std.specs.Prelude.{Ok, Err}
 
 -- two ends that meet one definition have one answer, and leave the stores and the room the same
-pub one_depot_end : {Answer : Type 0} {end : Ended Answer Lent} {x y : Answer} {s t : List ℤ} {l m : List ℕ}
+pub one_depot_end : {Told : Type 0} {end : Ended Told Lent} {x y : Told} {s t : List ℤ} {l m : List ℕ}
     → ended x (lent s l) ≡ end → ended y (lent t m) ≡ end → (x ≡ y) × (s ≡ t) × (l ≡ m)
 one_depot_end p q = let same = one_end p q in (same.0, ap (λ z. z.stores) same.1, ap (λ z. z.room) same.1)
 
-pub run_depot_determined : (κs : Lfts 4) (a : Dens κs ps) (x y : Checked) (s t : AtExit (ended_of 4 ps r) κs) → Post κs a x s → Post κs a y t
+pub run_depot_determined : (κs : Lfts 4) (a : Dens κs ps) (x y : Answer (Unit {0})) (s t : AtExit (ended_of 4 ps r) κs) → Post κs a x s → Post κs a y t
     → (x ≡ y) × (s.1.1.1.0.now ≡ t.1.1.1.0.now) × (s.1.1.1.1.1.0.now ≡ t.1.1.1.1.1.0.now)
 run_depot_determined κs a x y s t p q = one_depot_end p q
 
@@ -61,41 +61,41 @@ module _ {t c : List ℕ} {start : ℕ} {stores : List ℤ} (fuel : ℕ) {room :
 
 -- ---- what an answer says
 
-refused_or_done : (o : Option Refusal) (l m : Lent) → (unless_refused Checked.Refused o l (ended Checked.Done m)).answer ≡ answer o
+refused_or_done : (o : Option Refusal) (l m : Lent) → (unless_refused o l (ended (Ok tt) m)).answer ≡ answer o
 unfolding unless_refused answer
 refused_or_done (some r) l m = refl
 refused_or_done none l m = refl
 
-module _ (t c : List ℕ) (start : ℕ) (stores : List ℤ) (fuel : ℕ) (room : List ℕ) (x : Checked) (stores' : List ℤ) (room' : List ℕ)
+module _ (t c : List ℕ) (start : ℕ) (stores : List ℤ) (fuel : ℕ) (room : List ℕ) (x : Answer (Unit {0})) (stores' : List ℤ) (room' : List ℕ)
     (met : ended x (lent stores' room') ≡ depot t c start stores fuel room) where
   told_refusal : x ≡ answer (depot_refusal t c start stores room)
   unfolding depot
   told_refusal = answer_is met ∙ refused_or_done (depot_refusal t c start stores room) (lent stores room) (crews_run t c start stores fuel room)
 
-  was_refused : (r : Refusal) → x ≡ Checked.Refused r → depot_refusal t c start stores room ≡ some r
+  was_refused : (r : Refusal) → x ≡ Err r → depot_refusal t c start stores room ≡ some r
   was_refused r e = answer_refused _ r (sym e ∙ told_refusal)
 
-  was_done : x ≡ Checked.Done → depot_refusal t c start stores room ≡ none
+  was_done : x ≡ Ok tt → depot_refusal t c start stores room ≡ none
   was_done e = answer_done _ (sym e ∙ told_refusal)
 
-  is_refused : (r : Refusal) → depot_refusal t c start stores room ≡ some r → x ≡ Checked.Refused r
+  is_refused : (r : Refusal) → depot_refusal t c start stores room ≡ some r → x ≡ Err r
   unfolding answer
   is_refused r e = told_refusal ∙ ap answer e
 
-  is_done : depot_refusal t c start stores room ≡ none → x ≡ Checked.Done
+  is_done : depot_refusal t c start stores room ≡ none → x ≡ Ok tt
   unfolding answer
   is_done e = told_refusal ∙ ap answer e
 
   left_refused : (r : Refusal) → depot_refusal t c start stores room ≡ some r → lent stores' room' ≡ lent stores room
   unfolding depot
-  left_refused r e = after_is (met ∙ ends_refused Checked.Refused _ _ _ e)
+  left_refused r e = after_is (met ∙ ends_refused _ _ _ e)
 
   left_done : depot_refusal t c start stores room ≡ none → lent stores' room' ≡ crews_run t c start stores fuel room
   unfolding depot
-  left_done e = after_is (met ∙ ends_unrefused Checked.Refused _ _ _ e)
+  left_done e = after_is (met ∙ ends_unrefused _ _ _ e)
 
   -- a crew of a depot that is done: it was not refused, and its part and its words are those of its own run
-  module _ (done : x ≡ Checked.Done) (i : ℕ) (inside : i < crews stores) where
+  module _ (done : x ≡ Ok tt) (i : ℕ) (inside : i < crews stores) where
     pub crew_unrefused : code_run_refusal t c start (crew stores i) ≡ none
     crew_unrefused = (ready t c start stores room (was_done done)).unrefused i inside
 
@@ -122,6 +122,6 @@ module _ (t c : List ℕ) (start : ℕ) (stores : List ℤ) (fuel : ℕ) (room :
   }
 
 -- table, code, start label, stores, fuel and room are the arguments, in this order
-pub run_depot_says : (κs : Lfts 4) (a : Dens κs ps) (x : Checked) (s : AtExit (ended_of 4 ps r) κs) → Post κs a x s
+pub run_depot_says : (κs : Lfts 4) (a : Dens κs ps) (x : Answer (Unit {0})) (s : AtExit (ended_of 4 ps r) κs) → Post κs a x s
     → DepotSays a.0.now a.1.0.now a.1.1.0 a.1.1.1.0.now a.1.1.1.1.1.0.now x s.1.1.1.0.now s.1.1.1.1.1.0.now
 run_depot_says κs a x s met = depot_says _ _ _ _ a.1.1.1.1.0 _ x _ _ met

@@ -50,14 +50,14 @@ module _ (t c : List ℕ) (start : ℕ) (stores : List ℤ) (room : List ℕ) wh
 
   -- what comes after 10, and what comes before 16
   after_10 : Numbered (λ k. 10 < k) (refuse (ltb 65535 start) 11 0 or_else code_refusal t c)
-  after_10 = or_else_numbered (refuse_numbered _ 11 0 (lit≤ tt)) (numbered_more (λ k e. omega arith) (code_number t c))
+  after_10 = or_else_numbered (refuse_numbered _ 11 0 (lit≤ tt, lit≤ tt) (lit≤ tt)) (numbered_more (λ k e. omega arith) (code_number t c))
 
   before_16 : Numbered (λ k. k < 16) (admission t c start (stores_refusal stores))
   unfolding admission
   before_16 =
       or_else_numbered (numbered_more (λ k h. omega arith) (table_number t))
-      (or_else_numbered (refuse_numbered _ 10 0 (lit≤ tt))
-      (or_else_numbered (refuse_numbered _ 11 0 (lit≤ tt)) (numbered_more (λ k e. omega arith) (code_number t c))))
+      (or_else_numbered (refuse_numbered _ 10 0 (lit≤ tt, lit≤ tt) (lit≤ tt))
+      (or_else_numbered (refuse_numbered _ 11 0 (lit≤ tt, lit≤ tt) (lit≤ tt)) (numbered_more (λ k e. omega arith) (code_number t c))))
 
   -- ---- 10, and its case
 
@@ -73,7 +73,7 @@ module _ (t c : List ℕ) (start : ℕ) (stores : List ℤ) (room : List ℕ) wh
   pub ten_only_if : depot_refusal t c start stores room ≡ some (refusal 10 0) → Accepted t × (StoresFit stores → ⊥)
   ten_only_if e =
       ⊎_elim admission_ten
-      (λ rest. absurd (not_numbered (refuse_numbered {P = λ k. k ≡ 16} (ltb (length room) (3 * crews stores)) 16 0 refl) (λ h. omega arith) rest.1))
+      (λ rest. absurd (not_numbered (refuse_numbered {P = λ k. k ≡ 16} (ltb (length room) (3 * crews stores)) 16 0 (lit≤ tt, lit≤ tt) refl) (λ h. omega arith) rest.1))
       (or_else_some (admission t c start (stores_refusal stores)) short e)
 
   pub ten_if : Accepted t → (StoresFit stores → ⊥) → depot_refusal t c start stores room ≡ some (refusal 10 0)

@@ -1,16 +1,16 @@
 -- A depot in one call (02, A1): for every input the answer, and what the stores and the room hold then.
-use Rattle.std.specs.Prelude.{ℕ, ◌*◌, ◌/◌, ◌%◌, not, ◌&&◌, List, [], ◌∷◌, eqb, ltb, leb, ℤ, length, take, drop}
+use Rattle.std.specs.Prelude.{ℕ, ◌*◌, ◌/◌, ◌%◌, not, ◌&&◌, List, [], ◌∷◌, eqb, ltb, leb, ℤ, length, take, drop, Ok, Err}
 use Rattle.std.proofs.Math.Option.{Option}
 use Rattle.std.proofs.lemmas.List.Edits.{sets}
 use Rattle.rules.specs.Expression.{Store}
 use Rattle.rules.specs.Lists.{joined}
 use Rattle.rules.specs.Refusal.{refuse, ◌or_else◌}
-use Rattle.rules.specs.Answer.{Ended, ended, unless_refused}
+use Rattle.rules.specs.Answer.{Ended, ended, unless_refused, Answer}
 use Rattle.rules.specs.declared.Refusal.{Refusal}
-use Rattle.rules.specs.declared.Checked.{Checked}
-use Rattle.rules.specs.declared.CodeRun.{CodeRun}
 use Rattle.instructions.specs.Admission.{admission}
 use Rattle.code.specs.CodeRun.{code_run}
+use Rattle.rules.specs.declared.End.{End}
+use Rattle.rules.specs.declared.Halt.{Halt}
 
 -- "Take up to 512 stores back to back": crew i's is the 32 values from 32 * i on
 abbrev pub crews : List ℤ → ℕ
@@ -20,10 +20,10 @@ abbrev pub crew : List ℤ → ℕ → Store
 crew stores i = take 32 (drop (32 * i) stores)
 
 -- "three words a crew: verdict, label, steps. Verdict is 0 (finished) or 1 (out of fuel)." What refuses one crew refuses the depot.
-unfoldable pub crew_words : CodeRun → List ℕ
-crew_words (CodeRun.Finished h) = 0 ∷ h.label ∷ h.steps ∷ []
-crew_words (CodeRun.OutOfFuel h) = 1 ∷ h.label ∷ h.steps ∷ []
-crew_words (CodeRun.Refused r) = []
+unfoldable pub crew_words : Answer (End Halt) → List ℕ
+crew_words (Ok (End.Finished h)) = 0 ∷ h.label ∷ h.steps ∷ []
+crew_words (Ok (End.OutOfFuel h)) = 1 ∷ h.label ∷ h.steps ∷ []
+crew_words (Err r) = []
 
 -- "10 becomes a length that isn't a multiple of 32 or exceeds 16,384"
 abbrev pub stores_refusal : List ℤ → Option Refusal
@@ -44,7 +44,7 @@ lent stores room = record { stores = stores; room = room }
 -- table, code, "one start label and one fuel for all", and the stores
 module _ (t c : List ℕ) (start : ℕ) (stores : List ℤ) (fuel : ℕ) where
   -- "Each crew's part of the lent stores is lent on to the ordinary code run."
-  abbrev pub crew_run : ℕ → Ended CodeRun Store
+  abbrev pub crew_run : ℕ → Ended (Answer (End Halt)) Store
   crew_run i = code_run t c start (crew stores i) fuel
 
   -- "The whole must equal the crews run one by one": their stores back to back, and their words from the front of the room on
@@ -53,5 +53,5 @@ module _ (t c : List ℕ) (start : ℕ) (stores : List ℤ) (fuel : ℕ) where
       lent (joined (λ i. (crew_run i).after) (crews stores)) (sets room 0 (joined (λ i. crew_words (crew_run i).answer) (crews stores)))
 
   -- "It answers done; no crews is valid."
-  unfoldable pub depot : List ℕ → Ended Checked Lent
-  depot room = unless_refused Checked.Refused (depot_refusal t c start stores room) (lent stores room) (ended Checked.Done (crews_run room))
+  unfoldable pub depot : List ℕ → Ended (Answer (Unit {0})) Lent
+  depot room = unless_refused (depot_refusal t c start stores room) (lent stores room) (ended (Ok tt) (crews_run room))

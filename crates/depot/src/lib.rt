@@ -1,8 +1,7 @@
 // A depot in one call: one rule's code is run for each crew. The crews' stores lie back to back, and table and code are checked once for all.
 #![tactic(auto)]
 
-ghost use Rattle.std.specs.Prelude.{◌≡◌, not, [], ◌∷◌, ◌+◌, ◌*◌, ◌<◌, ◌≤◌, length};
-ghost use Rattle.std.proofs.lemmas.List.Edits.{sets};
+ghost use Rattle.std.specs.Prelude.{◌≡◌, not, Ok, length};
 ghost use Rattle.rules.specs.Answer.{ended};
 ghost use Rattle.rules.specs.Refusal.{refuse, ◌or_else◌};
 ghost use Rattle.table.specs.Checking.{answer};
@@ -10,46 +9,22 @@ ghost use Rattle.instructions.specs.Admission.{admission};
 ghost use Rattle.depot.specs.Depot.{crew_words, depot_refusal, lent, crews_run, depot};
 ghost use Rattle.depot.specs.inside.Ready.{Ready};
 
-use rules::{Checked, CodeRun, Refusal};
+use rules::{End, Halt, Reason, Refusal};
 
-// Where crew i's values begin in the stores.
-fn first_value(i: usize) -> usize
-    requires { i < 512 }
-    ensures { result ≡ 32 * i }
+// A crew's words: verdict, label and steps. No crew is refused: what would refuse it has refused the depot.
+fn tell(run: End<Halt>, words: &mut [u32])
+    requires { length words.old ≡ 3 }
+    ensures { words.new ≡ crew_words (Ok run) }
 {
-    32 * i
+    let (verdict, halt) = match run {
+        End::Finished(halt) => (0, halt),
+        End::OutOfFuel(halt) => (1, halt),
+    };
+    words.copy_from_slice(&[verdict, halt.label, halt.steps]);
 }
 
-// Where its words begin in the room.
-fn first_word(i: usize) -> usize
-    requires { i < 512 }
-    ensures { result ≡ 3 * i }
-{
-    3 * i
-}
-
-fn put(room: &mut [u32], at: usize, verdict: u32, label: u32, steps: u32)
-    requires { at + 3 ≤ length room.old }
-    ensures { room.new ≡ sets room.old at (verdict ∷ label ∷ steps ∷ []) }
-{
-    room[at] = verdict;
-    room[at + 1] = label;
-    room[at + 2] = steps;
-}
-
-// A crew's words, from `at` on. No crew is refused: what would refuse it has refused the depot.
-fn tell(run: CodeRun, room: &mut [u32], at: usize)
-    requires { at + 3 ≤ length room.old }
-    ensures { room.new ≡ sets room.old at (crew_words run) }
-{
-    match run {
-        CodeRun::Finished(halt) => put(room, at, 0, halt.label, halt.steps),
-        CodeRun::OutOfFuel(halt) => put(room, at, 1, halt.label, halt.steps),
-        CodeRun::Refused(_) => {}
-    }
-}
-
-// Crew by crew: its part of the stores is lent on to the code run, and its words are written.
+// Crew by crew: its part of the stores is lent on to the code run, and its words are written. By index: of what `chunks_exact_mut` lent, a proof
+// knows afterwards the length alone.
 fn run_crews(
     table: &[u32],
     code: &[u32],
@@ -63,37 +38,41 @@ fn run_crews(
         ≡ crews_run table.now code.now start stores.old fuel room.old }
 {
     let crews = stores.len() / 32;
-    let mut i = 0;
-    while i < crews {
-        let from = first_value(i);
-        let to = from + 32;
-        let run = code::run_admitted(table, code, start, &mut stores[from..to], fuel);
-        tell(run, room, first_word(i));
-        i += 1;
+    for i in 0..crews {
+        let from = 32 * i;
+        let run = code::run_admitted(table, code, start, &mut stores[from..from + 32], fuel);
+        let at = 3 * i;
+        tell(run, &mut room[at..at + 3]);
     }
 }
+
+// Each function takes the call's own parameters, in C's order: a struct of them would be made in `run_depot` alone, only to be taken apart for the
+// check and the runs.
 
 // Refusals 1 to 11 and 13, and then 16: `fits` tells whether the stores have a depot's length, `short` whether the room is too small.
-fn check_all(table: &[u32], code: &[u32], start: u32, fits: bool, short: bool) -> Checked
+fn check_all(
+    table: &[u32],
+    code: &[u32],
+    start: u32,
+    fits: bool,
+    short: bool,
+) -> Result<(), Refusal>
     ensures { result ≡ answer (admission table.now code.now start (refuse (not fits) 10 0) or_else refuse short 16 0) }
 {
-    let admitted = instructions::admit(table, code, start, fits);
-    match admitted {
-        Checked::Refused(r) => Checked::Refused(r),
-        Checked::Done => {
-            if short {
-                Checked::Refused(Refusal {
-                    number: 16,
-                    place: 0,
-                })
-            } else {
-                Checked::Done
-            }
-        }
+    instructions::admit(table, code, start, fits)?;
+    if short {
+        return Err(Reason::DepotRoom.at(0));
     }
+    Ok(())
 }
 
-fn admit(table: &[u32], code: &[u32], start: u32, stores: &[i32], room: &[u32]) -> Checked
+fn admit(
+    table: &[u32],
+    code: &[u32],
+    start: u32,
+    stores: &[i32],
+    room: &[u32],
+) -> Result<(), Refusal>
     ensures { result ≡ answer (depot_refusal table.now code.now start stores.now room.now) }
 {
     let values = stores.len();
@@ -110,16 +89,11 @@ pub fn run_depot(
     stores: &mut [i32],
     fuel: u32,
     room: &mut [u32],
-) -> Checked
+) -> Result<(), Refusal>
     ensures { ended result (lent stores.new room.new)
         ≡ depot table.now code.now start stores.old fuel room.old }
 {
-    let admitted = admit(table, code, start, stores, room);
-    match admitted {
-        Checked::Refused(r) => Checked::Refused(r),
-        Checked::Done => {
-            run_crews(table, code, start, stores, fuel, room);
-            Checked::Done
-        }
-    }
+    admit(table, code, start, stores, room)?;
+    run_crews(table, code, start, stores, fuel, room);
+    Ok(())
 }

@@ -1,44 +1,50 @@
 // The evaluators: the value or the truth of an expression node of an accepted table, on a store. They are for the runs alone, and ask
 // (`requires`) what a run has checked: a caller has to prove it.
-// They take the table by a reference to its slice: a call then passes one pointer on and copies no pair of pointer and length.
+// They take the table by a reference to its slice: a call then passes one pointer on and copies no pair of pointer and length. Table and store are no
+// struct: the source run has its store by `&mut`, and would make one for each call. A node is read word by word: one that is decoded into an enum
+// (`Number(v)`, `Binary(o, p, q)` ..) and matched measures 50 to 80 % more instructions (as plain Rust).
 #![tactic(auto)]
 
-ghost use Rattle.std.specs.Prelude.{◌≡◌, ◌≤◌};
+ghost use Rattle.std.specs.Prelude.{◌≡◌, ◌≤◌, IfSome};
 ghost use Rattle.rules.specs.Expression.{apply as applied, holds as held};
 ghost use Rattle.rules.specs.Table.{meaning, arithmetic, boolean as booleans};
 ghost use Rattle.evaluate.specs.Ready.{Ready};
 ghost use Rattle.evaluate.specs.inside.Operands.{operator_of, relation_of, Leaf, Compound, Operands, Worth};
 
+use lent::kinds::{
+    AT_MOST, CHOOSE, EQUAL, FALSEHOOD, LESS, MINUS, NEGATION, NUMBER, OVER, PLUS, REST, TIMES,
+    TRUTH, VARIABLE,
+};
 use lent::{place, word};
 
-// The operation of kind k, 3 to 7. By tests, which measure faster than a `match`: that becomes a jump through a table.
+// The operation of a kind from `PLUS` to `REST`. By tests, which measure faster than a `match`: that becomes a jump through a table.
 fn apply(k: u32, a: i32, b: i32) -> i32
     requires { (3 ≤ k) × (k ≤ 7) }
     ensures { result ≡ applied (operator_of k) a b }
 {
-    if k <= 4 {
-        if k == 3 {
+    if k <= MINUS {
+        if k == PLUS {
             return value::add(a, b);
         }
         return value::sub(a, b);
     }
-    if k == 5 {
+    if k == TIMES {
         return value::mul(a, b);
     }
-    if k == 6 {
+    if k == OVER {
         return value::div(a, b);
     }
     value::rem(a, b)
 }
 
-// The comparison of kind k, 18 to 20.
+// The comparison of a kind from `EQUAL` to `LESS`.
 fn compare(k: u32, a: i32, b: i32) -> bool
     requires { (18 ≤ k) × (k ≤ 20) }
     ensures { result ≡ held (relation_of k) a b }
 {
     match k {
-        18 => a == b,
-        19 => a <= b,
+        EQUAL => a == b,
+        AT_MOST => a <= b,
         _ => a < b,
     }
 }
@@ -48,7 +54,7 @@ fn leaf(t: &&[u32], s: &[i32; 32], n: usize, k: u32) -> i32
     requires { Leaf t.now.now n k }
     ensures { result ≡ (meaning t.now.now).arith n s.now }
 {
-    let is_number = k == 1;
+    let is_number = k == NUMBER;
     if is_number {
         return value::of_word(word(t, n, 1));
     }
@@ -62,7 +68,7 @@ fn arith(t: &&[u32], s: &[i32; 32], n: usize, k: u32) -> i32
     requires { Compound t.now.now n k }
     ensures { result ≡ (meaning t.now.now).arith n s.now }
 {
-    if k == 8 {
+    if k == CHOOSE {
         if boolean(t, s, place(t, n, 1)) {
             return operand(t, s, place(t, n, 2));
         }
@@ -80,7 +86,7 @@ fn operand(t: &&[u32], s: &[i32; 32], n: usize) -> i32
     ensures { result ≡ (meaning t.now.now).arith n s.now }
 {
     let k = word(t, n, 0);
-    if k <= 2 {
+    if k <= VARIABLE {
         leaf(t, s, n, k)
     } else {
         arith(t, s, n, k)
@@ -94,15 +100,15 @@ pub fn boolean(t: &&[u32], s: &[i32; 32], n: usize) -> bool
     ensures { result ≡ (meaning t.now.now).holds n s.now }
 {
     let k = word(t, n, 0);
-    if (18 <= k) & (k <= 20) {
+    if (EQUAL <= k) & (k <= LESS) {
         let a = operand(t, s, place(t, n, 1));
         let b = operand(t, s, place(t, n, 2));
         return compare(k, a, b);
     }
     match k {
-        16 => true,
-        17 => false,
-        21 => !boolean(t, s, place(t, n, 1)),
+        TRUTH => true,
+        FALSEHOOD => false,
+        NEGATION => !boolean(t, s, place(t, n, 1)),
         _ => {
             let a = boolean(t, s, place(t, n, 1));
             let b = boolean(t, s, place(t, n, 2));
@@ -111,49 +117,36 @@ pub fn boolean(t: &&[u32], s: &[i32; 32], n: usize) -> bool
     }
 }
 
-// What a node's two operands are worth, where both are leaves.
-#[derive(Clone, Copy)]
-struct Pair {
-    both: bool,
-    a: i32,
-    b: i32,
-}
-
-// The same, of node n. Most operations and comparisons are of two leaves, and need no call of an evaluator.
-fn leaves(t: &&[u32], s: &[i32; 32], n: usize) -> Pair
+// What the two operands of node n are worth, where both are leaves. Most operations and comparisons are of two leaves, and need no call of an evaluator.
+fn leaves(t: &&[u32], s: &[i32; 32], n: usize) -> Option<(i32, i32)>
     requires { Operands t.now.now n }
-    ensures { Worth t.now.now n s.now result.both result.a result.b }
+    ensures { IfSome result (λ two. Worth t.now.now n s.now two.0 two.1) }
 {
     let p = place(t, n, 1);
     let q = place(t, n, 2);
     let first = word(t, p, 0);
     let second = word(t, q, 0);
-    let both = (first <= 2) & (second <= 2);
+    let both = (first <= VARIABLE) & (second <= VARIABLE);
     if both {
         let a = leaf(t, s, p, first);
         let b = leaf(t, s, q, second);
-        return Pair { both: true, a, b };
+        return Some((a, b));
     }
-    Pair {
-        both: false,
-        a: 0,
-        b: 0,
-    }
+    None
 }
 
-// The same as `operand`, for a whole expression.
+// The same as `operand`, for a whole expression. It doesn't end in `operand`: that would be a call of its own, and measures up to 25 % more instructions.
 pub fn value_of(t: &&[u32], s: &[i32; 32], n: usize) -> i32
     requires { Ready t.now.now n arithmetic }
     ensures { result ≡ (meaning t.now.now).arith n s.now }
 {
     let k = word(t, n, 0);
-    if k <= 2 {
+    if k <= VARIABLE {
         return leaf(t, s, n, k);
     }
-    if k != 8 {
-        let two = leaves(t, s, n);
-        if two.both {
-            return apply(k, two.a, two.b);
+    if k != CHOOSE {
+        if let Some((x, y)) = leaves(t, s, n) {
+            return apply(k, x, y);
         }
     }
     arith(t, s, n, k)
@@ -165,10 +158,9 @@ pub fn truth_of(t: &&[u32], s: &[i32; 32], n: usize) -> bool
     ensures { result ≡ (meaning t.now.now).holds n s.now }
 {
     let k = word(t, n, 0);
-    if (18 <= k) & (k <= 20) {
-        let two = leaves(t, s, n);
-        if two.both {
-            return compare(k, two.a, two.b);
+    if (EQUAL <= k) & (k <= LESS) {
+        if let Some((x, y)) = leaves(t, s, n) {
+            return compare(k, x, y);
         }
     }
     boolean(t, s, n)

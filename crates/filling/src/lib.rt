@@ -7,6 +7,7 @@ use std::io;
 use std::io::Read;
 
 // Reads to the front of room until it is full or the input ends. Answers how many bytes it read. A read that fails is an error.
+// (`read_exact` would make an input that ends before an error too.)
 pub fn read_full<R: Read>(reader: &mut R, room: &mut [u8]) -> io::Result<usize>
     ensures { IfOk result (λ n. n ≤ length room.new) }
 {

@@ -10,24 +10,24 @@ use Rattle.rules.specs.Table.{table_refusal, Accepted}
 use Rattle.rules.specs.CodeWords.{code_refusal}
 use Rattle.rules.specs.Refusal.{refusal, refuse, ◌or_else◌}
 use Rattle.rules.specs.declared.Refusal.{Refusal}
-use Rattle.rules.specs.declared.Checked.{Checked}
 use Rattle.rules.proofs.ListLaws.{or_else_none, refuse_none}
 use Rattle.table.specs.Checking.{answer}
 use Rattle.instructions.specs.Admission.{admission}
+use Rattle.std.specs.Prelude.{Err}
 
 module _ (t c : List ℕ) (start : ℕ) where
   module _ (unfit : Bool) where
-    pub refused_table : (r : Refusal) → table_refusal t ≡ some r → answer (admission t c start (refuse unfit 10 0)) ≡ Checked.Refused r
+    pub refused_table : (r : Refusal) → table_refusal t ≡ some r → answer (admission t c start (refuse unfit 10 0)) ≡ Err r
     unfolding admission ◌or_else◌ answer
     refused_table r e = rw e
 
     module _ (table : Accepted t) where
-      pub refused_store : unfit ≡ true → answer (admission t c start (refuse unfit 10 0)) ≡ Checked.Refused (refusal 10 0)
+      pub refused_store : unfit ≡ true → answer (admission t c start (refuse unfit 10 0)) ≡ Err (refusal 10 0)
       unfolding admission refuse ◌or_else◌ answer
       refused_store e = rw (table, e)
 
       module _ (store : unfit ≡ false) where
-        pub refused_start : 65535 < start → answer (admission t c start (refuse unfit 10 0)) ≡ Checked.Refused (refusal 11 0)
+        pub refused_start : 65535 < start → answer (admission t c start (refuse unfit 10 0)) ≡ Err (refusal 11 0)
         unfolding admission refuse ◌or_else◌ answer
         refused_start h = rw (table, store, lt-ltb 65535 start h)
 

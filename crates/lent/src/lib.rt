@@ -1,6 +1,9 @@
 // How a run reads the table and the code that it is lent, and keeps the store. They are parts of the runs and of the check of code, and ask (`requires`) what those know:
-// a caller has to prove it.
+// a caller has to prove it. Table and code are words, as C lends them.
+// A word becomes a place by `as`, and a place a word: there is no `From` between `u32` and `usize`.
 #![tactic(auto)]
+
+pub mod kinds;
 
 ghost use Rattle.std.specs.Prelude.{◌≡◌, ◌+◌, ◌*◌, ◌<◌, length};
 ghost use Rattle.rules.specs.Table.{field};
@@ -33,16 +36,15 @@ pub fn part(c: &[u32], k: usize, i: usize) -> u32
     c[WIDTH * k + i]
 }
 
-// A run keeps its store in an array of its own, which a call passes on as one pointer: taken at the start, put back at the end.
+// A run keeps its store in an array of its own, which a call passes on as one pointer: taken at the start, put back at the end. Value by value:
+// `copy_from_slice` is a call of its own, and measures 5 to 7 % more instructions for a depot's crew.
 pub fn taken(s: &[i32]) -> [i32; 32]
     requires { length s.now ≡ 32 }
     ensures { result ≡ s.now }
 {
     let mut v = [0i32; 32];
-    let mut i = 0;
-    while i < 32 {
+    for i in 0..32 {
         v[i] = s[i];
-        i += 1;
     }
     v
 }
@@ -51,9 +53,7 @@ pub fn put_back(s: &mut [i32], v: &[i32; 32])
     requires { (length s.old ≡ 32) × (length v.now ≡ 32) }
     ensures { s.new ≡ v.now }
 {
-    let mut k = 0;
-    while k < 32 {
+    for k in 0..32 {
         s[k] = v[k];
-        k += 1;
     }
 }

@@ -11,7 +11,8 @@ use lib.ListN.{length, take}
 use lib.Seq.{length-take-le, get_or-take}
 use Rattle.rules.specs.Text.{line_length, lines, line_fault, is_digit, byte_at}
 use Rattle.rules.specs.Lists.{every}
-use Rattle.rules.specs.Refusal.{fine, refusal, refuse_lowest}
+use Rattle.rules.specs.Refusal.{fine, reason_of, placed, refuse_lowest}
+use Rattle.rules.specs.declared.Reason.{Reason}
 use Rattle.rules.specs.declared.Refusal.{Refusal}
 use Rattle.rules.proofs.ListLaws.{FaultAt, refuse_lowest_none, refuse_lowest_some, some_refuse_lowest}
 use Rattle.rules.proofs.TextLaws.{GoodLine, fine_line, line_fine, begun_lines}
@@ -72,9 +73,9 @@ module _ (w : ℕ) (b : List ℕ) (long : line_length w * 1024 + 1 ≤ length b)
       λ e. f.is_fault (line_fine w front r.place (good_in_front r.place (fine_line w b r.place e))) in
       let found = some_refuse_lowest (line_fault w b) (lines w b) r.place (omega (arith, not-later)) bad
       (λ j h. line_fine w b j (good_of_front j (fine_line w front j (f.fine_below j h)))) in
-      let number : line_fault w b r.place ≡ r.number =
-      fault_is_14 w b r.place bad ∙ sym (f.number_is ∙ fault_is_14 w front r.place f.is_fault) in
-      found ∙ ap (λ (n : ℕ). some (refusal n r.place)) number
+      let reason : reason_of (line_fault w b r.place) ≡ r.reason =
+      ap reason_of (fault_is_14 w b r.place bad ∙ sym (fault_is_14 w front r.place f.is_fault)) ∙ sym f.reason_is in
+      found ∙ ap (λ (n : Reason). some (placed n r.place)) reason
 
   pub front_faults : refuse_lowest (line_fault w front) (lines w front) ≡ refuse_lowest (line_fault w b) (lines w b)
   front_faults = of (refuse_lowest (line_fault w front) (lines w front)) refl

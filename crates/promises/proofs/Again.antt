@@ -1,19 +1,20 @@
 -- "Accepted text read and written again gives its own bytes; accepted words written and read again give their own words."
 -- Of the contracts of `read_text` and `write_text` as the check states them: whatever the two calls answer, if they meet these.
+use Prim.Native.Nat.{ℕ}
 use contract.Lifetimes.{Lfts}
 use denote.Triple.Clauses.{AtExit}
 use borrow.Fn.Kinds.{Dens, ended_of}
 use native.Mathlib.Omega.{arith}
-use Rattle.rules.specs.declared.Text.{Text}
 use Rattle.promises.specs.Again.{Call, Again, GivesBack, Words}
 use Rattle.promises.proofs.RoundTrips.{read_write, write_read}
 use Rattle.reading.proofs.read_text.Kinds as read-kinds
 use Rattle.reading.proofs.read_text.Reads as read-text
 use Rattle.writing.proofs.write_text.Kinds as write-kinds
 use Rattle.writing.proofs.write_text.Reads as write-text
+use Rattle.rules.specs.Answer.{Answer}
 
 -- a call of `read_text`, with arguments a, and one of `write_text`, with arguments b; s and t are what they left, x and y their answers
-module _ (κs κs' : Lfts 2) (x y : Text)
+module _ (κs κs' : Lfts 2) (x y : Answer ℕ)
     (a : Dens κs read-kinds.ps) (s : AtExit (ended_of 2 read-kinds.ps read-kinds.r) κs)
     (b : Dens κs' write-kinds.ps) (t : AtExit (ended_of 2 write-kinds.ps write-kinds.r) κs') where
   abbrev pub reads : Call

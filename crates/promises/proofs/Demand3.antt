@@ -15,11 +15,8 @@ use Rattle.rules.specs.Goto.{run}
 use Rattle.rules.specs.Compilation.{size, compile}
 use Rattle.rules.specs.Table.{meaning, program, Accepted}
 use Rattle.rules.specs.CodeWords.{code_of}
-use Rattle.rules.specs.Answer.{ended, compiled_words, source_run_words, code_run_words}
+use Rattle.rules.specs.Answer.{ended, compiled_words, source_run_words, code_run_words, Answer}
 use Rattle.rules.specs.declared.Made.{Made}
-use Rattle.rules.specs.declared.Compiled.{Compiled}
-use Rattle.rules.specs.declared.CodeRun.{CodeRun}
-use Rattle.rules.specs.declared.SourceRun.{SourceRun}
 use Rattle.rules.proofs.WhileLaws.{within?}
 use Rattle.rules.proofs.CompilationLaws.{known, compiled_code}
 use Rattle.rules.proofs.EndedLaws.{answer_is, after_is, ends_unrefused}
@@ -46,6 +43,9 @@ use Rattle.boundary.proofs.rill_run_source.Reads as rill-source-reads
 use Rattle.boundary.proofs.rill_run_code.Kinds as rill-code-kinds
 use Rattle.boundary.proofs.rill_run_code.Reads as rill-code-reads
 use Rattle.promises.specs.Demand3.{Verdicts, answers, words, Together, Finished, OutOfFuel, Evaluated, Demand3}
+use Rattle.rules.specs.declared.End.{End}
+use Rattle.rules.specs.declared.Halt.{Halt}
+use Rattle.std.specs.Prelude.{Ok, Err}
 
 -- ---- "only if" follows from the rest: whether there is an evaluation within n is decided
 
@@ -98,10 +98,10 @@ module _ {Code Source : Type 0} (tells : Verdicts Code Source) (plain : Plain te
 -- ---- on the definitions
 
 -- a table that compiled into the room lent, a store of 32 values, a fuel, and the ends of the two runs
-module _ (t : List ℕ) (start : ℕ) (room after : List ℕ) (m : Made) (compiled : ended (Compiled.Done m) after ≡ compiling t start room)
+module _ (t : List ℕ) (start : ℕ) (room after : List ℕ) (m : Made) (compiled : ended (Ok m) after ≡ compiling t start room)
     (σ : Store) (values : length σ ≡ 32) (n : ℕ)
-    (r : CodeRun) (σ' : Store) (code-met : ended r σ' ≡ code_run t (written m after) start σ n)
-    (q : SourceRun) (σ'' : Store) (source-met : ended q σ'' ≡ source_run t σ n) where
+    (r : Answer (End Halt)) (σ' : Store) (code-met : ended r σ' ≡ code_run t (written m after) start σ n)
+    (q : Answer (End ℕ)) (σ'' : Store) (source-met : ended q σ'' ≡ source_run t σ n) where
   accepted : Accepted t
   accepted = (done_unrefused t start room m after compiled).accepted
 
@@ -118,7 +118,7 @@ module _ (t : List ℕ) (start : ℕ) (room after : List ℕ) (m : Made) (compil
 
   code_ends : ended r σ' ≡ code_end n (run (meaning t) (compile (program t) start) n start σ)
   unfolding code_run
-  code_ends = code-met ∙ ends_unrefused _ _ _ _ no_refusal ∙ rw code_is
+  code_ends = code-met ∙ ends_unrefused _ _ _ no_refusal ∙ rw code_is
 
   source_ends : ended q σ'' ≡ source_end n (exec (meaning t) (program t) n σ)
   source_ends = source-met ∙ source_runs t σ n accepted values
@@ -128,8 +128,8 @@ module _ (t : List ℕ) (start : ℕ) (room after : List ℕ) (m : Made) (compil
   finishes τ d l =
       let told = (simulation.demand_3 (meaning t) (program t) start n σ).finishes_if d l in
       let steps : n - (n - count d) ≡ count d = omega arith in
-      let by_code : ended r σ' ≡ ended (CodeRun.Finished (halt m.end (count d))) τ = code_ends ∙ ap (code_end n) told.0 ∙ rw (steps, ← end_is) refl in
-      let by-source : ended q σ'' ≡ ended (SourceRun.Finished (count d)) τ = source_ends ∙ ap (source_end n) told.1 ∙ rw steps refl in
+      let by_code : ended r σ' ≡ ended (Ok (End.Finished (halt m.end (count d)))) τ = code_ends ∙ ap (code_end n) told.0 ∙ rw (steps, ← end_is) refl in
+      let by-source : ended q σ'' ≡ ended (Ok (End.Finished (count d))) τ = source_ends ∙ ap (source_end n) told.1 ∙ rw steps refl in
       record { code_told = answer_is by_code; code_left = after_is by_code; source_told = answer_is by-source; source_left = after_is by-source }
 
   runs_out : (EvaluatesWithin (meaning t) (program t) σ n → ⊥) → OutOfFuel answers t start m.end σ n r σ' q σ''
@@ -137,8 +137,8 @@ module _ (t : List ℕ) (start : ℕ) (room after : List ℕ) (m : Made) (compil
   runs_out nothing =
       let told = (simulation.demand_3 (meaning t) (program t) start n σ).otherwise_out nothing in
       let inside = told.1 in
-      let by_code : ended r σ' ≡ ended (CodeRun.OutOfFuel (halt inside.label n)) told.0 = code_ends ∙ ap (code_end n) inside.is in
-      let by-source : ended q σ'' ≡ ended (SourceRun.OutOfFuel n) told.0 = source_ends ∙ ap (source_end n) told.2 in
+      let by_code : ended r σ' ≡ ended (Ok (End.OutOfFuel (halt inside.label n))) told.0 = code_ends ∙ ap (code_end n) inside.is in
+      let by-source : ended q σ'' ≡ ended (Ok (End.OutOfFuel n)) told.0 = source_ends ∙ ap (source_end n) told.2 in
       record {
         label = inside.label;
         from_start = inside.from_start;
@@ -153,9 +153,9 @@ module _ (t : List ℕ) (start : ℕ) (room after : List ℕ) (m : Made) (compil
   kept = decided answers plain_answers t start m.end σ n r σ' q σ'' finishes runs_out
 
 -- the same of calls whose arguments are equal
-kept_together : (t : List ℕ) (start : ℕ) (room after : List ℕ) (m : Made) → ended (Compiled.Done m) after ≡ compiling t start room
-    → (t₁ c : List ℕ) (start₁ : ℕ) (σ : Store) (n : ℕ) (r : CodeRun) (σ' : Store) → ended r σ' ≡ code_run t₁ c start₁ σ n
-    → (t₂ : List ℕ) (σ₂ : Store) (n₂ : ℕ) (q : SourceRun) (σ'' : Store) → ended q σ'' ≡ source_run t₂ σ₂ n₂
+kept_together : (t : List ℕ) (start : ℕ) (room after : List ℕ) (m : Made) → ended (Ok m) after ≡ compiling t start room
+    → (t₁ c : List ℕ) (start₁ : ℕ) (σ : Store) (n : ℕ) (r : Answer (End Halt)) (σ' : Store) → ended r σ' ≡ code_run t₁ c start₁ σ n
+    → (t₂ : List ℕ) (σ₂ : Store) (n₂ : ℕ) (q : Answer (End ℕ)) (σ'' : Store) → ended q σ'' ≡ source_run t₂ σ₂ n₂
     → Together t start (written m after) t₁ c start₁ σ n t₂ σ₂ n₂ → Demand3 answers t start m.end σ n r σ' q σ''
 kept_together t start room after m compiled t₁ c start₁ σ n r σ' code-met t₂ σ₂ n₂ q σ'' source-met same =
     kept t start room after m compiled σ same.values n
@@ -168,8 +168,8 @@ module _ (κs : Lfts 2) (a : Dens κs compile-kinds.ps) (s : AtExit (ended_of 2 
     (κs₁ : Lfts 3) (b : Dens κs₁ code-kinds.ps) (u : AtExit (ended_of 3 code-kinds.ps code-kinds.r) κs₁)
     (κs₂ : Lfts 2) (c : Dens κs₂ source-kinds.ps) (v : AtExit (ended_of 2 source-kinds.ps source-kinds.r) κs₂) where
   -- `compile` has table, start label and room; `run_code` table, code, start label, store and fuel; `run_source` table, store and fuel
-  pub demand_3 : (m : Made) (r : CodeRun) (q : SourceRun)
-      → compile-reads.Post κs a (Compiled.Done m) s → code_Reads.Post κs₁ b r u → source-reads.Post κs₂ c q v
+  pub demand_3 : (m : Made) (r : Answer (End Halt)) (q : Answer (End ℕ))
+      → compile-reads.Post κs a (Ok m) s → code_Reads.Post κs₁ b r u → source-reads.Post κs₂ c q v
       → Together a.0.now a.1.0 (written m s.1.1.0.now)
       b.0.now b.1.0.now b.1.1.0 b.1.1.1.0.now b.1.1.1.1.0
       c.0.now c.1.0.now c.1.1.0
@@ -181,15 +181,15 @@ module _ (κs : Lfts 2) (a : Dens κs compile-kinds.ps) (s : AtExit (ended_of 2 
 -- ---- on the contracts of the C boundary
 
 -- an answer that is told as done was done
-compiled_done : (x : Compiled) (m : Made) → compiled_words (Compiled.Done m) ≡ compiled_words x → x ≡ Compiled.Done m
+compiled_done : (x : Answer Made) (m : Made) → compiled_words (Ok m) ≡ compiled_words x → x ≡ Ok m
 unfolding compiled_words
-compiled_done (Compiled.Done k) m e =
+compiled_done (Ok k) m e =
     let end : k.end ≡ m.end = cc in let instructions : k.instructions ≡ m.instructions = cc in
-    ap₂ (λ i e. Compiled.Done (made i e)) instructions end
-compiled_done (Compiled.Refused r) m e = let z : ◌≡◌ {A = ℕ} 0 3 = cc in absurd (omega arith)
+    ap₂ (λ i e. Ok (made i e)) instructions end
+compiled_done (Err r) m e = let z : ◌≡◌ {A = ℕ} 0 3 = cc in absurd (omega arith)
 
 -- verdicts told in words
-module _ {t : List ℕ} {start end : ℕ} {σ : Store} {n : ℕ} {r : CodeRun} {σ' : Store} {q : SourceRun} {σ'' : Store} where
+module _ {t : List ℕ} {start end : ℕ} {σ : Store} {n : ℕ} {r : Answer (End Halt)} {σ' : Store} {q : Answer (End ℕ)} {σ'' : Store} where
   in_words : {v w : List ℕ} → v ≡ code_run_words r → w ≡ source_run_words q → Demand3 answers t start end σ n r σ' q σ''
       → Demand3 words t start end σ n v σ' w σ''
   in_words {v} {w} code source d = decided words plain_words t start end σ n v σ' w σ'' finishing running_out
@@ -216,7 +216,7 @@ module _ (κs : Lfts 3) (a : Dens κs rill-compile-kinds.ps) (s : AtExit (ended_
     (κs₁ : Lfts 4) (b : Dens κs₁ rill-code-kinds.ps) (u : AtExit (ended_of 4 rill-code-kinds.ps rill-code-kinds.r) κs₁)
     (κs₂ : Lfts 3) (c : Dens κs₂ rill-source-kinds.ps) (v : AtExit (ended_of 3 rill-source-kinds.ps rill-source-kinds.r) κs₂) where
   -- the arguments are in the same order, and the eight words of the answer come last
-  pub demand_3_in_words : (m : Made) → rill-compile-reads.Post κs a tt s → s.1.1.1.0.now ≡ compiled_words (Compiled.Done m)
+  pub demand_3_in_words : (m : Made) → rill-compile-reads.Post κs a tt s → s.1.1.1.0.now ≡ compiled_words (Ok m)
       → rill-code-reads.Post κs₁ b tt u → rill-source-reads.Post κs₂ c tt v
       → Together a.0.now a.1.0 (written m s.1.1.0.now)
       b.0.now b.1.0.now b.1.1.0 b.1.1.1.0.now b.1.1.1.1.0
@@ -226,8 +226,8 @@ module _ (κs : Lfts 3) (a : Dens κs rill-compile-kinds.ps) (s : AtExit (ended_
   unfolding compile_call code_call source_call
   demand_3_in_words m compiled done code-met source-met same =
       let call = compiling a.0.now a.1.0 a.1.1.0.now in
-      let answer : call.answer ≡ Compiled.Done m = compiled_done call.answer m (sym done ∙ answer_is compiled) in
-      let is_done : ended (Compiled.Done m) s.1.1.0.now ≡ call = rw (← answer, after_is compiled) refl in
+      let answer : call.answer ≡ Ok m = compiled_done call.answer m (sym done ∙ answer_is compiled) in
+      let is_done : ended (Ok m) s.1.1.0.now ≡ call = rw (← answer, after_is compiled) refl in
       in_words (answer_is code-met) (answer_is source-met)
       (kept_together _ _ _ _ m is_done
       _ _ _ _ _ (code_run b.0.now b.1.0.now b.1.1.0 b.1.1.1.0.now b.1.1.1.1.0).answer _ (rw (after_is code-met) refl)

@@ -7,12 +7,11 @@ use native.Mathlib.Nat.{mul-div_cancel_left, le_of_mul-le-mul_left, le_refl}
 use lib.ListN.{length, take}
 use lib.Seq.{sets}
 use Rattle.rules.specs.Text.{line_length, lines, words_of_text, text_of}
-use Rattle.rules.specs.declared.Text.{Text}
 use Rattle.rules.proofs.ListLaws.{take_sets}
 use Rattle.rules.proofs.EndedLaws.{answer_is, after_is}
 use Rattle.rules.proofs.TextLaws.{text_accepted, length_text_of, lines_text_of, good_text_of}
 use Rattle.rules.proofs.TextLaws.{words_of_text_text_of, length_words_of_text, text_of_words_of_text}
-use Rattle.rules.specs.Answer.{Ended, ended}
+use Rattle.rules.specs.Answer.{Ended, ended, Answer}
 use Rattle.rules.specs.Answer.{done}
 use Rattle.reading.specs.Reading.{reading}
 use Rattle.writing.specs.Writing.{writing}
@@ -21,6 +20,7 @@ use Rattle.reading.proofs.HasRead.{has_read}
 use Rattle.writing.proofs.Endings.{write_done}
 use Rattle.writing.proofs.HasWritten.{has_written}
 use Rattle.promises.specs.Again.{Call, Meets, Again, GivesBack, Words}
+use Rattle.std.specs.Prelude.{Ok}
 
 -- what is done stands at the front
 front_is : (written room after : List ℕ) (n : ℕ) → n ≡ length written → length written ≤ length room → after ≡ sets room 0 written
@@ -29,12 +29,12 @@ front_is written room after n e h left = rw (e, left) (take_sets written room h)
 
 module _ (first second : Call) (again : Again first second) where
   -- the first call, with its answer
-  accepted_end : (end : Ended Text (List ℕ)) → ended first.answer first.after ≡ end
-      → ended (Text.Done again.amount) first.after ≡ end
+  accepted_end : (end : Ended (Answer ℕ) (List ℕ)) → ended first.answer first.after ≡ end
+      → ended (Ok again.amount) first.after ≡ end
   accepted_end end e = rw again.accepted at e
 
   -- the second call, given what the first wrote, is done with what the first was given
-  gives_back : (definition : List ℕ → List ℕ → Ended Text (List ℕ)) (written : List ℕ) → take again.amount first.after ≡ written
+  gives_back : (definition : List ℕ → List ℕ → Ended (Answer ℕ) (List ℕ)) (written : List ℕ) → take again.amount first.after ≡ written
       → done (length first.given) second.room first.given ≡ definition written second.room
       → Meets definition second → GivesBack first second
   gives_back definition written front ends meets =

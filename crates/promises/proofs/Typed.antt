@@ -8,11 +8,8 @@ use denote.Triple.Clauses.{AtExit}
 use borrow.Fn.Kinds.{Dens, ended_of}
 use Rattle.rules.specs.Expression.{Store}
 use Rattle.rules.specs.Table.{Accepted}
-use Rattle.rules.specs.Answer.{ended, checked_words, source_run_words, text_words}
+use Rattle.rules.specs.Answer.{ended, checked_words, source_run_words, text_words, Answer}
 use Rattle.rules.specs.declared.Refusal.{Refusal}
-use Rattle.rules.specs.declared.Checked.{Checked}
-use Rattle.rules.specs.declared.SourceRun.{SourceRun}
-use Rattle.rules.specs.declared.Text.{Text}
 use Rattle.rules.proofs.EndedLaws.{answer_is, after_is}
 use Rattle.grammar.specs.Rule.{Rule}
 use Rattle.grammar.specs.Layout.{InGrammar}
@@ -38,31 +35,33 @@ use Rattle.promises.specs.Typed.{Accepts, Refuses, SourceFollows, TypedDemand3}
 use Rattle.promises.proofs.Demand3.{plain_answers, plain_words}
 use Rattle.promises.proofs.TypedReading.{read_done, read_unrefused, read_refused, text_told}
 use Rattle.promises.proofs.TypedRuns.{checked, source_follows, demand_of_tree, table_is, same_as_tree, written_passes}
+use Rattle.rules.specs.declared.End.{End}
+use Rattle.std.specs.Prelude.{Ok, Err}
 
 -- ---- on the contracts of the public functions
 
 -- a call of `read_rule`, which has text and room, that was done with n words
 module _ (κs : Lfts 2) (a : Dens κs rule-kinds.ps) (s : AtExit (ended_of 2 rule-kinds.ps rule-kinds.r) κs) where
-  pub read_rule_accepts : (n : ℕ) → rule-reads.Post κs a (Text.Done n) s → Accepts a.0.now a.1.0.now n s.1.0.now
+  pub read_rule_accepts : (n : ℕ) → rule-reads.Post κs a (Ok n) s → Accepts a.0.now a.1.0.now n s.1.0.now
   read_rule_accepts n met = read_done _ _ _ n met
 
   pub read_rule_accepts_if : {p : Rule} → InGrammar a.0.now p → Accepted (table_of p) → length (table_of p) ≤ length a.1.0.now
-      → (x : Text) → rule-reads.Post κs a x s → x ≡ Text.Done (length (table_of p))
+      → (x : Answer ℕ) → rule-reads.Post κs a x s → x ≡ Ok (length (table_of p))
   read_rule_accepts_if g ok fits x met = read_unrefused _ _ _ g ok fits x met
 
-  pub read_rule_refuses : (q : Refusal) → rule-reads.Post κs a (Text.Refused q) s
+  pub read_rule_refuses : (q : Refusal) → rule-reads.Post κs a (Err q) s
       → Refuses a.0.now (length a.1.0.now) q × (s.1.0.now ≡ a.1.0.now)
   read_rule_refuses q met = read_refused _ _ _ q met
 
-  module _ (n : ℕ) (done : rule-reads.Post κs a (Text.Done n) s) where
+  module _ (n : ℕ) (done : rule-reads.Post κs a (Ok n) s) where
     -- any check of these words is done
-    pub typed_checks : (κs₁ : Lfts 1) (b : Dens κs₁ check-kinds.ps) (u : AtExit (ended_of 1 check-kinds.ps check-kinds.r) κs₁) (x : Checked)
-        → check-reads.Post κs₁ b x u → b.0.now ≡ take n s.1.0.now → x ≡ Checked.Done
+    pub typed_checks : (κs₁ : Lfts 1) (b : Dens κs₁ check-kinds.ps) (u : AtExit (ended_of 1 check-kinds.ps check-kinds.r) κs₁) (x : Answer (Unit {0}))
+        → check-reads.Post κs₁ b x u → b.0.now ≡ take n s.1.0.now → x ≡ Ok tt
     typed_checks κs₁ b u x met table = checked (read_rule_accepts n done) x (rw table at met)
 
     -- any source run of these words, from any store of 32 values, with any fuel
     pub typed_runs : {p : Rule} → InGrammar a.0.now p
-        → (κs₁ : Lfts 2) (b : Dens κs₁ source-kinds.ps) (u : AtExit (ended_of 2 source-kinds.ps source-kinds.r) κs₁) (x : SourceRun)
+        → (κs₁ : Lfts 2) (b : Dens κs₁ source-kinds.ps) (u : AtExit (ended_of 2 source-kinds.ps source-kinds.r) κs₁) (x : Answer (End ℕ))
         → source-reads.Post κs₁ b x u → b.0.now ≡ take n s.1.0.now → length b.1.0.now ≡ 32
         → SourceFollows demand.answers p b.1.0.now b.1.1.0 x u.1.0.now
     typed_runs {p} g κs₁ b u x met table values =
@@ -82,30 +81,30 @@ module _ (κs : Lfts 2) (a : Dens κs rule-kinds.ps) (s : AtExit (ended_of 2 rul
 -- a call of `rill_read_rule`: text, room, and the eight words of the answer
 module _ (κs : Lfts 3) (a : Dens κs rill-rule-kinds.ps) (s : AtExit (ended_of 3 rill-rule-kinds.ps rill-rule-kinds.r) κs)
     (met : rill-rule-reads.Post κs a tt s) where
-  answered : (x : Text) → s.1.1.0.now ≡ text_words x → ended x s.1.0.now ≡ reading_rule a.0.now a.1.0.now
+  answered : (x : Answer ℕ) → s.1.1.0.now ≡ text_words x → ended x s.1.0.now ≡ reading_rule a.0.now a.1.0.now
   unfolding rule_call
   answered x words =
       let is : x ≡ (reading_rule a.0.now a.1.0.now).answer = text_told _ _ (sym words ∙ answer_is met) in
       rw (is, after_is met) refl
 
-  pub read_rule_accepts_in_words : (n : ℕ) → s.1.1.0.now ≡ text_words (Text.Done n)
+  pub read_rule_accepts_in_words : (n : ℕ) → s.1.1.0.now ≡ text_words (Ok n)
       → Accepts a.0.now a.1.0.now n s.1.0.now
   read_rule_accepts_in_words n words = read_done _ _ _ n (answered _ words)
 
   pub read_rule_accepts_if_in_words : {p : Rule} → InGrammar a.0.now p → Accepted (table_of p) → length (table_of p) ≤ length a.1.0.now
-      → s.1.1.0.now ≡ text_words (Text.Done (length (table_of p)))
+      → s.1.1.0.now ≡ text_words (Ok (length (table_of p)))
   unfolding rule_call
   read_rule_accepts_if_in_words g ok fits =
       let call = reading_rule a.0.now a.1.0.now in
       answer_is met ∙ ap text_words (read_unrefused a.0.now a.1.0.now s.1.0.now g ok fits call.answer (rw (after_is met) refl))
 
-  pub read_rule_refuses_in_words : (q : Refusal) → s.1.1.0.now ≡ text_words (Text.Refused q)
+  pub read_rule_refuses_in_words : (q : Refusal) → s.1.1.0.now ≡ text_words (Err q)
       → Refuses a.0.now (length a.1.0.now) q × (s.1.0.now ≡ a.1.0.now)
   read_rule_refuses_in_words q words = read_refused _ _ _ q (answered _ words)
 
-  module _ (n : ℕ) (done : s.1.1.0.now ≡ text_words (Text.Done n)) where
+  module _ (n : ℕ) (done : s.1.1.0.now ≡ text_words (Ok n)) where
     pub typed_checks_in_words : (κs₁ : Lfts 2) (b : Dens κs₁ rill-check-kinds.ps) (u : AtExit (ended_of 2 rill-check-kinds.ps rill-check-kinds.r) κs₁)
-        → rill-check-reads.Post κs₁ b tt u → b.0.now ≡ take n s.1.0.now → u.1.0.now ≡ checked_words Checked.Done
+        → rill-check-reads.Post κs₁ b tt u → b.0.now ≡ take n s.1.0.now → u.1.0.now ≡ checked_words (Ok tt)
     unfolding check_call
     typed_checks_in_words κs₁ b u told table =
         let read = read_rule_accepts_in_words n done in

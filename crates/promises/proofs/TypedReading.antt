@@ -1,5 +1,5 @@
 -- What reading a typed rule answers, by its definition: done with the words of its table, or refused.
-use mathlib.Core.Path.{◌≡◌, refl, sym, ap₂, ◌∙◌}
+use mathlib.Core.Path.{◌≡◌, refl, sym, ap, ap₂, ◌∙◌}
 use mathlib.Core.Bool.{Bool, true, false}
 use mathlib.Core.List.{List}
 use mathlib.Core.Option.{Option, none, some}
@@ -10,12 +10,12 @@ use lib.ListN.{length}
 use lib.Seq.{sets}
 use borrow.Author.Tests.{ltb-true, ltb-false, le-ltb}
 use Rattle.rules.specs.Table.{Accepted}
-use Rattle.rules.specs.Refusal.{refusal, refuse, ◌or_else◌}
-use Rattle.rules.specs.Answer.{ended, text_words}
+use Rattle.rules.specs.Refusal.{number_of, reason_of, placed, refusal, refuse, ◌or_else◌}
+use Rattle.rules.specs.Answer.{ended, text_words, Answer}
 use Rattle.rules.specs.declared.Refusal.{Refusal}
-use Rattle.rules.specs.declared.Text.{Text}
+use Rattle.rules.proofs.NumberLaws.{reason_back}
 use Rattle.rules.proofs.ListLaws.{refuse_none, or_else_none, take_sets, drop_sets}
-use Rattle.rules.proofs.EndedLaws.{answer_is, ends_unrefused, text_carries, was_refused, text_done}
+use Rattle.rules.proofs.EndedLaws.{answer_is, ends_unrefused, was_refused, text_done}
 use Rattle.grammar.specs.Rule.{Rule}
 use Rattle.grammar.specs.Layout.{InGrammar}
 use Rattle.grammar.specs.Written.{rule_node, size, depth, table_of}
@@ -27,6 +27,7 @@ use Rattle.grammar.proofs.table.TypedRefusals.{typed_refusal_lem}
 use Rattle.rule.specs.ReadingRule.{reading_rule}
 use Rattle.promises.specs.Typed.{Accepts, Refuses, many, deep, short}
 use Rattle.promises.specs.Typed as typed
+use Rattle.std.specs.Prelude.{Ok, Err}
 
 -- of a text that is in the grammar: its table passes 01 and fits the room, or it is refused 1, 9 or 15
 data Weighed (p : Rule) (room : ℕ) : Option Refusal → Type 0 where
@@ -73,7 +74,7 @@ module _ (text room after : List ℕ) where
         rest = rw (words, left) (drop_sets (table_of p) room enough);
       }
 
-  pub read_done : (n : ℕ) → ended (Text.Done n) after ≡ reading_rule text room → Accepts text room n after
+  pub read_done : (n : ℕ) → ended (Ok n) after ≡ reading_rule text room → Accepts text room n after
   unfolding reading_rule
   read_done n e =
       let is = text_done _ _ n room (typed_words text (length room)) after e in
@@ -81,13 +82,13 @@ module _ (text room after : List ℕ) where
 
   -- and it is done where it may be
   pub read_unrefused : {p : Rule} → InGrammar text p → Accepted (table_of p) → length (table_of p) ≤ length room
-      → (x : Text) → ended x after ≡ reading_rule text room → x ≡ Text.Done (length (table_of p))
+      → (x : Answer ℕ) → ended x after ≡ reading_rule text room → x ≡ Ok (length (table_of p))
   unfolding reading_rule table_answer refuse ◌or_else◌
   read_unrefused {p} g ok enough x e =
       let nothing : table_answer (table_of p) (length room) ≡ none = rw (ok, le-ltb (length room) (length (table_of p)) enough) in
       let same = one_answer text (length room) (answers text (length room)) (accepted g nothing) in
-      let is : ended x after ≡ ended (Text.Done (length (table_of p))) (sets room 0 (table_of p)) =
-      e ∙ ends_unrefused _ _ _ _ same.0 ∙ rw same.1 refl in
+      let is : ended x after ≡ ended (Ok (length (table_of p))) (sets room 0 (table_of p)) =
+      e ∙ ends_unrefused _ _ _ same.0 ∙ rw same.1 refl in
       answer_is is
 
   refusing : (p : Rule) → InGrammar text p → {o : Option Refusal} {q : Refusal} → Weighed p (length room) o → o ≡ some q → Refuses text (length room) q
@@ -101,20 +102,22 @@ module _ (text room after : List ℕ) where
   refused_by (refused {r = p} g r) e = refusing p g (weighed g (length room)) (r ∙ e)
   refused_by (accepted g r) e = absurd (never (sym e))
 
-  pub read_refused : (q : Refusal) → ended (Text.Refused q) after ≡ reading_rule text room → Refuses text (length room) q × (after ≡ room)
+  pub read_refused : (q : Refusal) → ended (Err q) after ≡ reading_rule text room → Refuses text (length room) q × (after ≡ room)
   unfolding reading_rule
   read_refused q e =
-      let is = was_refused text_carries (typed_refusal text (length room)) room _ refl e in
+      let is = was_refused (typed_refusal text (length room)) room _ refl e in
       (refused_by (answers text (length room)) is.0, is.1)
 
 -- ---- told in words
 
 -- an answer is told as no other
-pub text_told : (x y : Text) → text_words x ≡ text_words y → x ≡ y
+pub text_told : (x y : Answer ℕ) → text_words x ≡ text_words y → x ≡ y
 unfolding text_words
-text_told (Text.Done n) (Text.Done m) e = let same : n ≡ m = cc in rw same
-text_told (Text.Done n) (Text.Refused r) e = let z : ◌≡◌ {A = ℕ} 0 3 = cc in absurd (omega arith)
-text_told (Text.Refused q) (Text.Done m) e = let z : ◌≡◌ {A = ℕ} 0 3 = cc in absurd (omega arith)
-text_told (Text.Refused q) (Text.Refused r) e =
-    let number : q.number ≡ r.number = cc in let place : q.place ≡ r.place = cc in
-    ap₂ (λ n k. Text.Refused (refusal n k)) number place
+text_told (Ok n) (Ok m) e = let same : n ≡ m = cc in rw same
+text_told (Ok n) (Err r) e = let z : ◌≡◌ {A = ℕ} 0 3 = cc in absurd (omega arith)
+text_told (Err q) (Ok m) e = let z : ◌≡◌ {A = ℕ} 0 3 = cc in absurd (omega arith)
+text_told (Err q) (Err r) e =
+    let number : number_of q.reason ≡ number_of r.reason = cc in
+    let place : q.place ≡ r.place = cc in
+    let reason : q.reason ≡ r.reason = sym (reason_back q.reason) ∙ ap reason_of number ∙ reason_back r.reason in
+    ap₂ (λ n k. Err (placed n k)) reason place

@@ -7,9 +7,7 @@ use lib.ListN.{length, take}
 use Rattle.rules.specs.Expression.{Store}
 use Rattle.rules.specs.While.{count, Outcome, done, stop, exec}
 use Rattle.rules.specs.Table.{meaning, program, Accepted}
-use Rattle.rules.specs.Answer.{ended}
-use Rattle.rules.specs.declared.Checked.{Checked}
-use Rattle.rules.specs.declared.SourceRun.{SourceRun}
+use Rattle.rules.specs.Answer.{ended, Answer}
 use Rattle.rules.proofs.EndedLaws.{answer_is, after_is}
 use Rattle.rules.proofs.WhileLaws as while-laws
 use Rattle.rules.proofs.WhileLaws.{evaluated, unfinished, says, finds, within?}
@@ -25,11 +23,13 @@ use Rattle.promises.specs.Demand3 as demand
 use Rattle.promises.specs.Demand3.{Verdicts, Demand3}
 use Rattle.promises.specs.Typed.{Accepts, EvaluatesWithin, SourceFollows, TypedDemand3}
 use Rattle.promises.proofs.Demand3.{Plain}
+use Rattle.rules.specs.declared.End.{End}
+use Rattle.std.specs.Prelude.{Ok}
 
 -- ---- the words that were written pass the check
 
 module _ {text room : List ℕ} {n : ℕ} {after : List ℕ} (read : Accepts text room n after) where
-  pub checked : (x : Checked) → x ≡ checking (take n after) → x ≡ Checked.Done
+  pub checked : (x : Answer (Unit {0})) → x ≡ checking (take n after) → x ≡ Ok tt
   unfolding checking answer
   checked x e = e ∙ rw (read.front, read.passes) refl
 
@@ -37,33 +37,33 @@ module _ {text room : List ℕ} {n : ℕ} {after : List ℕ} (read : Accepts tex
 
 -- a table that does what the tree p does, and the end of a source run of it
 module _ (t : List ℕ) (p : Rule) (same : Follows (meaning t) (program t) p) where
-  module _ (accepts : Accepted t) (σ : Store) (values : length σ ≡ 32) (n : ℕ) (q : SourceRun) (σ' : Store) (met : ended q σ' ≡ source_run t σ n) where
+  module _ (accepts : Accepted t) (σ : Store) (values : length σ ≡ 32) (n : ℕ) (q : Answer (End ℕ)) (σ' : Store) (met : ended q σ' ≡ source_run t σ n) where
     ends : ended q σ' ≡ source_end n (exec (meaning t) (program t) n σ)
     ends = met ∙ source_runs t σ n accepts values
 
-    finishes : {k : ℕ} {τ : Store} → Evaluates p σ k τ → k ≤ n → (q ≡ SourceRun.Finished k) × (σ' ≡ τ)
+    finishes : {k : ℕ} {τ : Store} → Evaluates p σ k τ → k ≤ n → (q ≡ Ok (End.Finished k)) × (σ' ≡ τ)
     unfolding source_end
     finishes {k} {τ} e l =
         let d = same.evaluated e in
         let steps : n - (n - count d.0) ≡ k = omega (arith, d.1) in
-        let is : ended q σ' ≡ ended (SourceRun.Finished k) τ =
+        let is : ended q σ' ≡ ended (Ok (End.Finished k)) τ =
         ends ∙ ap (source_end n) (finds (meaning t) d.0 n (omega (arith, d.1))) ∙ rw steps refl in
         (answer_is is, after_is is)
 
-    runs_out : (EvaluatesWithin p σ n → ⊥) → (q ≡ SourceRun.OutOfFuel n) × Unfinished p σ n σ'
+    runs_out : (EvaluatesWithin p σ n → ⊥) → (q ≡ Ok (End.OutOfFuel n)) × Unfinished p σ n σ'
     unfolding source_end
     runs_out nothing = of (exec (meaning t) (program t) n σ) refl (says (meaning t) (program t) n σ)
       where
         of : (o : Outcome) → exec (meaning t) (program t) n σ ≡ o → while-laws.Says (meaning t) (program t) n σ o
-            → (q ≡ SourceRun.OutOfFuel n) × Unfinished p σ n σ'
+            → (q ≡ Ok (End.OutOfFuel n)) × Unfinished p σ n σ'
         of (done τ left) e (evaluated l d s) = absurd (nothing (record { steps = _; store = _; evaluation = same.evaluates d; within = omega arith }))
         of (stop τ) e (unfinished u) =
-            let is : ended q σ' ≡ ended (SourceRun.OutOfFuel n) τ = ends ∙ ap (source_end n) e in
+            let is : ended q σ' ≡ ended (Ok (End.OutOfFuel n)) τ = ends ∙ ap (source_end n) e in
             (answer_is is, rw (after_is is) (same.unfinished u))
 
     -- told in any way that keeps the verdicts apart
-    pub source_follows : {Code Source : Type 0} (tells : Verdicts Code Source) → Plain tells → (tell : SourceRun → Source)
-        → ((k : ℕ) → tell (SourceRun.Finished k) ≡ tells.source_finished k) → ((k : ℕ) → tell (SourceRun.OutOfFuel k) ≡ tells.source_out k)
+    pub source_follows : {Code Source : Type 0} (tells : Verdicts Code Source) → Plain tells → (tell : Answer (End ℕ) → Source)
+        → ((k : ℕ) → tell (Ok (End.Finished k)) ≡ tells.source_finished k) → ((k : ℕ) → tell (Ok (End.OutOfFuel k)) ≡ tells.source_out k)
         → {x : Source} → x ≡ tell q → SourceFollows tells p σ n x σ'
     source_follows tells plain tell finished out {x} told = record {
       finishes_if = λ {k} {τ} e l. let f = finishes e l in (told ∙ ap tell f.0 ∙ finished k, f.1);

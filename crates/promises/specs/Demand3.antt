@@ -1,14 +1,14 @@
 -- Demand 3, as a statement about three calls: `compile`, a run of the code that it wrote, and the source run, of one table, start label, store
 -- and fuel. It is stated once, over the ways in which the runs tell their verdicts: the answers of the functions, and the eight words of the
 -- C boundary.
-use Rattle.std.specs.Prelude.{◌≡◌, List, ℕ, ◌<◌, ◌≤◌, length}
+use Rattle.std.specs.Prelude.{◌≡◌, List, ℕ, ◌<◌, ◌≤◌, length, Ok}
 use Rattle.rules.specs.Expression.{Store}
 use Rattle.rules.specs.While.{Evaluates, count, EvaluatesWithin, Unfinished}
 use Rattle.rules.specs.Table.{meaning, program}
-use Rattle.rules.specs.Answer.{source_run_words, code_run_words}
-use Rattle.rules.specs.declared.CodeRun.{CodeRun}
-use Rattle.rules.specs.declared.SourceRun.{SourceRun}
+use Rattle.rules.specs.Answer.{source_run_words, code_run_words, Answer}
 use Rattle.code.specs.CodeSays.{halt}
+use Rattle.rules.specs.declared.End.{End}
+use Rattle.rules.specs.declared.Halt.{Halt}
 
 -- how the two runs tell that they finished or ran out of fuel: a code run with label and steps, a source run with steps
 pub record Verdicts (Code Source : Type 0) : Type 0 where
@@ -17,21 +17,21 @@ pub record Verdicts (Code Source : Type 0) : Type 0 where
   pub source_finished : ℕ → Source
   pub source_out : ℕ → Source
 
-abbrev pub answers : Verdicts CodeRun SourceRun
+abbrev pub answers : Verdicts (Answer (End Halt)) (Answer (End ℕ))
 answers = record {
-  code_finished = λ label steps. CodeRun.Finished (halt label steps);
-  code_out = λ label steps. CodeRun.OutOfFuel (halt label steps);
-  source_finished = λ steps. SourceRun.Finished steps;
-  source_out = λ steps. SourceRun.OutOfFuel steps;
+  code_finished = λ label steps. Ok (End.Finished (halt label steps));
+  code_out = λ label steps. Ok (End.OutOfFuel (halt label steps));
+  source_finished = λ steps. Ok (End.Finished steps);
+  source_out = λ steps. Ok (End.OutOfFuel steps);
 }
 
 -- "a definition states this paper's number and values for each of the enum's cases, and the promises use that definition"
 abbrev pub words : Verdicts (List ℕ) (List ℕ)
 words = record {
-  code_finished = λ label steps. code_run_words (CodeRun.Finished (halt label steps));
-  code_out = λ label steps. code_run_words (CodeRun.OutOfFuel (halt label steps));
-  source_finished = λ steps. source_run_words (SourceRun.Finished steps);
-  source_out = λ steps. source_run_words (SourceRun.OutOfFuel steps);
+  code_finished = λ label steps. code_run_words (Ok (End.Finished (halt label steps)));
+  code_out = λ label steps. code_run_words (Ok (End.OutOfFuel (halt label steps)));
+  source_finished = λ steps. source_run_words (Ok (End.Finished steps));
+  source_out = λ steps. source_run_words (Ok (End.OutOfFuel steps));
 }
 
 -- the three calls are of one table, one start label, the code that was written, one store of 32 values and one fuel

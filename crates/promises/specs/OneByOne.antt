@@ -1,10 +1,11 @@
 -- Request A1 (02): "The whole must equal the crews run one by one." It is a statement about a depot's call and a code run on the store of one of
 -- its crews, and is stated once, over the ways in which a code run tells its answer: that of the function, and the eight words of the C boundary.
-use Rattle.std.specs.Prelude.{◌≡◌, ◌↔◌, List, [], ◌∷◌, ℕ, ◌-◌, ◌*◌, ◌<◌, ℤ, get_or, take, drop}
+use Rattle.std.specs.Prelude.{◌≡◌, ◌↔◌, List, [], ◌∷◌, ℕ, ◌-◌, ◌*◌, ◌<◌, ℤ, get_or, take, drop, Ok}
 use Rattle.rules.specs.Expression.{Store}
 use Rattle.rules.specs.declared.Halt.{Halt}
-use Rattle.rules.specs.declared.CodeRun.{CodeRun}
 use Rattle.depot.specs.Depot.{crews, crew, crew_words}
+use Rattle.rules.specs.Answer.{Answer}
+use Rattle.rules.specs.declared.End.{End}
 
 -- what the answer of a code run says: its verdict, and a crew's three words
 pub record Telling (Run : Type 0) : Type 1 where
@@ -12,10 +13,10 @@ pub record Telling (Run : Type 0) : Type 1 where
   pub out_of_fuel : Run → Type 0
   pub three_words : Run → List ℕ
 
-abbrev pub answers : Telling CodeRun
+abbrev pub answers : Telling (Answer (End Halt))
 answers = record {
-  finished = λ x. (h : Halt) × (x ≡ CodeRun.Finished h);
-  out_of_fuel = λ x. (h : Halt) × (x ≡ CodeRun.OutOfFuel h);
+  finished = λ x. (h : Halt) × (x ≡ Ok (End.Finished h));
+  out_of_fuel = λ x. (h : Halt) × (x ≡ Ok (End.OutOfFuel h));
   three_words = crew_words;
 }
 

@@ -1,19 +1,20 @@
 -- Eight digits are read at once: the masks leave of each lane its digit's value, and two lanes become one three times over.
 use mathlib.Core.Path.{◌≡◌, refl, sym, ap, ◌∙◌}
 use mathlib.Core.Bool.{true}
-use mathlib.Core.List.{List}
+use mathlib.Core.List.{List, [], ◌∷◌}
 use Prim.Native.Nat.{ℕ, zero, suc, ◌+◌, ◌-◌, ◌*◌, ◌/◌, ◌%◌, ◌^◌, ◌<◌, ◌≤◌}
-use native.Mathlib.Nat.{mod-lt, lt_of_lt_of_le, div-add-mod', le-add_right, div-le_self}
+use native.Mathlib.Nat.{mod-lt, lt_of_lt_of_le, div-add-mod', le-add_right}
 use native.Mathlib.Omega.{arith}
 use borrow.Author.Tests.{lt-ltb, le-ltb}
 use lib.Arith.{digits_lt}
-use lib.Bits.{bit_and, and_block, and_mask, and_high, and_zero_r, and_le_r}
-use lib.ListN.{length, get_or, take, drop, length-drop}
-use lib.Seq.{take-suc, get_or-drop}
+use lib.Bits.{bit_and, and_block, and_mask, and_high, and_zero_r}
+use lib.ListN.{length, get_or, take}
+use lib.Seq.{take-suc}
 use lib.Pow.{pow_pos, pow-add, pow_mono, ones_lt, high, low}
+use Rattle.std.specs.Int.{from_be_bytes, w64}
 use Rattle.rules.specs.Text.{is_digit, digit_value, number_of}
 use Rattle.rules.proofs.DigitLaws.{DigitByte, decimal, letter, digit_byte, digit_range, digit_value_below, number_of_snoc}
-use Rattle.reading.specs.inside.Parts.{packed, DigitsAt}
+use Rattle.reading.specs.inside.Parts.{packed, HasDigits}
 
 -- ---- the digits' values
 
@@ -92,9 +93,6 @@ merged h lane (suc n) small =
     let small-v = small (suc (2 * n)) (omega arith) in
     rw (next, merged_two h (packed (h + h) lane (2 * n)) _ _ small-u small-v _, merged h lane n (λ i l. small i (omega arith)))
 
-pub folded_fits : (x m c : ℕ) → m < 2 ^ 63 → bit_and x m + bit_and x m / c < 2 ^ 64
-folded_fits x m c l = omega (arith, and_le_r x m, div-le_self (bit_and x m) c)
-
 -- ---- eight digits
 
 -- the lanes as digits, as pairs of digits, as fours, and as the word
@@ -143,14 +141,23 @@ module _ (byte : ℕ → ℕ) (is : (i : ℕ) → i < 8 → is_digit (byte i) �
   unfolding packed
   eight_digits = omega (arith, lane_of_word)
 
-number_packed : (b : List ℕ) (at n : ℕ) → at + n ≤ length b
-    → number_of 0 (take n (drop at b)) ≡ packed 4 (λ i. digit_value (get_or b (at + i) 0)) n
+number_packed : (b : List ℕ) (n : ℕ) → n ≤ length b → number_of 0 (take n b) ≡ packed 4 (λ i. digit_value (get_or b i 0)) n
 unfolding packed number_of
-number_packed b at zero h = refl
-number_packed b at (suc n) h =
-    rw (take-suc (drop at b) n 0 (rw length-drop (omega arith)), get_or-drop at b n 0)
-    (omega (arith, number_of_snoc 0 (take n (drop at b)) (get_or b (at + n) 0), number_packed b at n (omega arith)))
+number_packed b zero h = refl
+number_packed b (suc n) h =
+    rw (take-suc b n 0 h) (omega (arith, number_of_snoc 0 (take n b) (get_or b n 0), number_packed b n (omega arith)))
 
-pub word_read : (b : List ℕ) (at : ℕ) → DigitsAt b at 8
-    → word_lane (packed 8 (λ i. get_or b (at + i) 0) 8) ≡ number_of 0 (take 8 (drop at b))
-word_read b at d = eight_digits (λ i. get_or b (at + i) 0) d.digits ∙ sym (number_packed b at 8 d.within)
+-- eight bytes, the first highest, are lanes of eight bits
+lanes_of_bytes : (byte : ℕ → ℕ)
+    → from_be_bytes w64 (byte 0 ∷ byte 1 ∷ byte 2 ∷ byte 3 ∷ byte 4 ∷ byte 5 ∷ byte 6 ∷ byte 7 ∷ []) ≡ packed 8 byte 8
+unfolding packed
+lanes_of_bytes byte = omega arith
+
+module _ (b : List ℕ) where
+  abbrev byte_of : ℕ → ℕ
+  byte_of i = get_or b i 0
+
+  pub word_of_bytes : HasDigits b 8
+      → word_lane (from_be_bytes w64 (byte_of 0 ∷ byte_of 1 ∷ byte_of 2 ∷ byte_of 3 ∷ byte_of 4 ∷ byte_of 5 ∷ byte_of 6 ∷ byte_of 7 ∷ []))
+      ≡ number_of 0 (take 8 b)
+  word_of_bytes d = rw (lanes_of_bytes byte_of) (eight_digits byte_of d.digits ∙ sym (number_packed b 8 d.within))

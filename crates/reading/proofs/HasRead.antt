@@ -6,12 +6,12 @@ use borrow.Author.Tests.{ltb-false}
 use lib.ListN.{length}
 use lib.Seq.{sets}
 use Rattle.rules.specs.Text.{lines, read_refusal, words_of_text}
-use Rattle.rules.specs.declared.Text.{Text}
 use Rattle.rules.proofs.ListLaws.{refuse_none, or_else_none}
 use Rattle.rules.proofs.EndedLaws.{text_done}
 use Rattle.rules.proofs.TextLaws.{GoodText, accepted_text}
 use Rattle.rules.specs.Answer.{ended}
 use Rattle.reading.specs.Reading.{reading}
+use Rattle.std.specs.Prelude.{Ok}
 
 pub record HasRead (w : ℕ) (b room : List ℕ) (n : ℕ) (after : List ℕ) : Type 0 where
   pub amount : n ≡ w * lines w b
@@ -19,7 +19,7 @@ pub record HasRead (w : ℕ) (b room : List ℕ) (n : ℕ) (after : List ℕ) : 
   pub enough : w * lines w b ≤ length room
   pub left : after ≡ sets room 0 (words_of_text w b)
 
-pub has_read : (w : ℕ) (b room : List ℕ) (n : ℕ) (after : List ℕ) → ended (Text.Done n) after ≡ reading w b room
+pub has_read : (w : ℕ) (b room : List ℕ) (n : ℕ) (after : List ℕ) → ended (Ok n) after ≡ reading w b room
     → HasRead w b room n after
 unfolding reading read_refusal
 has_read w b room n after e =

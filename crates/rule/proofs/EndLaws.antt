@@ -8,7 +8,9 @@ use native.Mathlib.Omega.{arith}
 use lib.Dec.{eqb, ltb, lit<}
 use lib.ListN.{length, get_or, take}
 use borrow.Author.Tests.{eq-eqb, ne_eqb, lt-ltb, le-ltb, ltb-true, ltb-false}
-use Rattle.rules.specs.Refusal.{refuse, ◌or_else◌}
+use Rattle.std.specs.Prelude.{Result, MatchResult}
+use Rattle.rules.specs.Refusal.{refusal, refuse, ◌or_else◌}
+use Rattle.rules.specs.declared.Refusal.{Refusal}
 use Rattle.rules.specs.Table
 use Rattle.grammar.specs.Rule.{Rule}
 use Rattle.grammar.specs.Grammar.{nesting}
@@ -20,26 +22,24 @@ use Rattle.grammar.specs.machine.Bytes.{shut, byte_end, next_spot, reach_bytes, 
 use Rattle.grammar.specs.machine.Answer.{refusal_of, typed_refusal}
 use Rattle.grammar.proofs.bytes.OneReading.{read_in_grammar}
 use Rattle.grammar.proofs.table.TypedRefusals.{typed_refusal_lem, table_length}
-use Rattle.tokens.specs.declared.moves.Place.{Place}
+use Rattle.tokens.specs.declared.moves.Stack.{Stack}
 use Rattle.tokens.specs.declared.moves.Standing.{Standing}
 use Rattle.tokens.specs.Tables.{moves}
 use Rattle.tokens.specs.Flat.{move_at, form_of, make, arity, sizes, Flat, flat, frames_of, nodes_of, at_hand, Found, found, seek_by, seek, locate}
 use Rattle.tokens.specs.Stand.{flat_of}
 use Rattle.tokens.specs.Shape.{Shape, shape, tags, forget, none_open, complete}
 use Rattle.tokens.specs.Shape
-use Rattle.tokens.specs.Arrays.{stack, standing, Located, Entered}
+use Rattle.tokens.specs.Arrays.{stack, standing, Located}
 use Rattle.tokens.proofs.ShapeLaws.{present, ends_complete, left_over, ends_left}
 use Rattle.tokens.proofs.NodeLaws.{passes, nodes_length, found_roomy}
 use Rattle.tokens.proofs.ArrayLaws.{located_sought}
 use Rattle.tokens.proofs.Halts.{past}
-use Rattle.rule.specs.declared.nodes.Built.{Built}
+use Rattle.rule.specs.declared.nodes.Nodes.{Nodes}
 use Rattle.rule.specs.declared.turns.Next.{Next}
-use Rattle.rule.specs.declared.turns.Turn.{Turn}
 use Rattle.rule.specs.inside.Nodes.{depths_of, written_of, Holds, Frames, Become}
-use Rattle.rule.specs.inside.Turns.{Stands, Lowering, Lowered, Moving, Grown, Performing, Moved, Reading, Skipped, BeforeTurn, AtEnd, NextIs, Turned}
-use Rattle.rule.specs.inside.Turns.{Whole, Finished, Reached}
+use Rattle.rule.specs.inside.Turns.{Stands, Lowering, Lowered, Moving, Grown, Performing, Moved, Reading, Skipped, BeforeTurn, AtEnd, LeftOpen, NextIs, NoneNext, Turned, Stuck}
+use Rattle.rule.specs.inside.Turns.{Whole, Finished, Reached, Refuses}
 use Rattle.rule.proofs.HoldLaws.{depth_is}
-use Rattle.rule.proofs.MakeLaws.{never}
 use Rattle.rule.proofs.DescentLaws.{Closable_all}
 use Rattle.rule.proofs.SeekLaws.{Passed, found_passed, all_kinded, kind_named}
 use Rattle.rule.proofs.TurnLaws.{lowers, grow_makes, grow_made, tags_stand, top_fits, level_fits}
@@ -47,8 +47,8 @@ use Rattle.rule.proofs.ReadLaws.{skipped_read, token_stuck, token_moving, token_
 
 -- ---- the reading is what the state ends as
 
-module _ {text st ar roots deep words : List ℕ} {s : Standing} {b : Built} {at : ℕ}
-    (R : Reading text at st ar roots deep words s b) (h : length text ≤ at) where
+module _ {text : List ℕ} {K : Stack} {Ns : Nodes} {s : Standing} {at : ℕ}
+    (R : Reading text at K Ns s) (h : length text ≤ at) where
   end_reads : read_text text ≡ ends R.state
   unfolding read_text read_from reach_bytes next_spot byte_end shut next
   end_reads = R.same.reads ∙ rw (past text at h)
@@ -90,25 +90,15 @@ complete_not st s m = rw (ne_eqb s.mode 6 m)
 
 -- ---- `next_at_end`
 
-pub wanting_open : {st : List ℕ} {s : Standing} {at : ℕ} {r : Next} → (s.mode ≡ 6 → ⊥) → (r.stuck ≡ true) × (r.end ≡ at) → AtEnd st s at r
-wanting_open {st} {s} m q =
-    let e = q.0 in
-    let k = q.1 in
-    record { left_open = λ z. (complete_not st s m, k); over = λ z. never e z }
+pub wanting_open : {st : List ℕ} {s : Standing} {at : ℕ} → (s.mode ≡ 6 → ⊥) → LeftOpen st s at at
+wanting_open {st} {s} m = record { left_open = complete_not st s m; end_is = refl }
 
-pub frames_open : {st : List ℕ} {s : Standing} {at a t : ℕ} {r : Next} → s.mode ≡ 6 → Located st s 29 a t → (t ≡ 0 → ⊥)
-    → (r.stuck ≡ true) × (r.end ≡ at)
-    → AtEnd st s at r
-frames_open {st} {s} {a = a} {t = t} m l n q =
-    let e = q.0 in
-    let k = q.1 in
-    record { left_open = λ z. (complete_is st s a t m l ∙ ne_eqb t 0 n, k); over = λ z. never e z }
+pub frames_open : {st : List ℕ} {s : Standing} {at a t : ℕ} → s.mode ≡ 6 → Located st s 29 a t → (t ≡ 0 → ⊥) → LeftOpen st s at at
+frames_open {st} {s} {a = a} {t = t} m l n = record { left_open = complete_is st s a t m l ∙ ne_eqb t 0 n; end_is = refl }
 
-pub nothing_open : {st : List ℕ} {s : Standing} {at a t : ℕ} {r : Next} → s.mode ≡ 6 → Located st s 29 a t → t ≡ 0 → r.stuck ≡ false
-    → r.end ≡ at + 1
-    → r.act ≡ 0 → r.top ≡ 0 → AtEnd st s at r
-nothing_open {a = a} m l z f e c t =
-    record { left_open = λ y. never y f; over = λ y. (m, (a, rw z at l), e, c, t) }
+pub nothing_open : {st : List ℕ} {s : Standing} {at a t : ℕ} {n : Next} → s.mode ≡ 6 → Located st s 29 a t → t ≡ 0 → n.end ≡ at + 1
+    → n.place.act ≡ 0 → n.place.top ≡ 0 → AtEnd st s at n
+nothing_open {a = a} m l z e c t = record { over = (m, (a, rw z at l), e, c, t) }
 
 -- ---- a rule is there
 
@@ -130,42 +120,41 @@ hand_seeks : (F : Flat) → mode_of (forget F) ≡ 6 → (locate F 29 ≡ seek 2
 unfolding mode_of forget locate seek_by frames_of nodes_of at_hand
 hand_seeks (flat mode left fs ns) e = (rw (eq-eqb mode 6 e), rw (eq-eqb mode 6 e))
 
-module _ {st ar roots deep words : List ℕ} {s : Standing} {b : Built} (S : State nesting)
-    (D : Stands S st ar roots deep words s b) (m : s.mode ≡ 6) where
+module _ {K : Stack} {Ns : Nodes} {s : Standing} (S : State nesting)
+    (D : Stands S K Ns s) (m : s.mode ≡ 6) where
   hand : (locate (flat_of S) 29 ≡ seek 29 (frames_of (flat_of S)) (nodes_of (flat_of S))) × (at_hand (flat_of S) ≡ 1)
   unfolding mode_of
   hand = hand_seeks (flat_of S) (ap mode_of D.shaped ∙ m)
 
-  ended : {a t : ℕ} → Located st s 29 a t → t ≡ 0 → (r : Rule) × Ended S r
+  ended : {a t : ℕ} → Located K.tags s 29 a t → t ≡ 0 → (r : Rule) × Ended S r
   ended {a} {t} l z =
-      let c : present (ends S) ≡ true = ends_complete S ∙ ap complete D.shaped ∙ complete_is st s a t m l ∙ eq-eqb t 0 z in
+      let c : present (ends S) ≡ true = ends_complete S ∙ ap complete D.shaped ∙ complete_is K.tags s a t m l ∙ eq-eqb t 0 z in
       let r = present_some (ends S) c in
       let f = left_over_lem (seek 29 (frames_of (flat_of S)) (nodes_of (flat_of S))) (ends_left S r.1) in
       (r.0, record { act = f.0; ends_as = r.1; found_is = hand.0 ∙ f.1 })
 
   module _ {r : Rule} (E : Ended S r) where
-    all_passed : Passed 29 (frames_of (flat_of S)) (nodes_of (flat_of S)) st ar s.top 0 [] (rule_node r ∷ [])
+    all_passed : Passed 29 (frames_of (flat_of S)) (nodes_of (flat_of S)) K.tags K.figures s.top 0 [] (rule_node r ∷ [])
     unfolding tags stack
-    all_passed = found_passed (flat_of S) 29 st ar s.top 0 (tags_stand S D) E.found_is refl
+    all_passed = found_passed (flat_of S) 29 K.tags K.figures s.top 0 (tags_stand S D) E.found_is refl
 
     not_larger : sizes (nodes_of (flat_of S)) ≤ size (rule_node r)
     unfolding sizes
     not_larger = let g = (found_roomy S 29 (lit< tt) E.found_is).size_most in omega arith
 
-    all_stand : b.count ≤ 1024 → Frames (frames_of (flat_of S)) st ar s.top (nodes_of (flat_of S))
+    all_stand : Ns.count ≤ 1024 → Frames (frames_of (flat_of S)) K s.top (nodes_of (flat_of S))
     all_stand f =
         let n = nodes_length S in
         let o = hand.1 in
         record { tags_are = tags_stand S D; figures_are = D.figured f; kinded = all_kinded S; enough = omega arith }
 
-    all_close : Closable_all st s.top 0
-    all_close i a h = passes (get_or st i 0) 29 (lit< tt) (all_passed.passed i a h)
+    all_close : Closable_all K.tags s.top 0
+    all_close i a h = passes (get_or K.tags i 0) 29 (lit< tt) (all_passed.passed i a h)
 
-    closing_all : Moving st ar roots deep words b s.top 0 0
+    closing_all : Moving K Ns s.top 0 0
     unfolding move_at moves form_of arity
     closing_all =
         record {
-          room = D.room;
           most = D.most;
           fits = top_fits D;
           goes = λ f. record {
@@ -178,9 +167,9 @@ module _ {st ar roots deep words : List ℕ} {s : Standing} {b : Built} (S : Sta
           };
         }
 
-    closed_all : {roots₂ deep₂ words₂ : List ℕ} {c : Built} {x : ℕ} → b.count ≤ 1024
-        → Grown st ar roots deep words b s.top 0 0 x roots₂ deep₂ words₂ c
-        → Become (nodes_of (flat_of S)) (rule_node r ∷ []) roots deep words b roots₂ deep₂ words₂ c
+    closed_all : {Ns₂ : Nodes} {x : ℕ} → Ns.count ≤ 1024
+        → Grown K Ns s.top 0 0 x Ns₂
+        → Become (nodes_of (flat_of S)) (rule_node r ∷ []) Ns Ns₂
     unfolding move_at moves form_of arity make
     closed_all f G =
         let q = all_passed.nodes_are in
@@ -198,46 +187,26 @@ module _ (text : List ℕ) (r : Rule) (e : read_text text ≡ some r) where
   unfolding typed_refusal refusal_of table_answer
   answer_is room = let t = typed_refusal_lem (read_in_grammar text e) in rw (e, t)
 
-  many_reached : {words : List ℕ} {number place count : ℕ} → 1024 < size (rule_node r) → length words ≡ 4096 → number ≡ 1
-      → place ≡ 0 → count ≡ 0
-      → Reached text words number place count
+  many_refused : 1024 < size (rule_node r) → Refuses text (refusal 1 0)
   unfolding refuse ◌or_else◌
-  many_reached h w n p c =
-      let l = lt-ltb 1024 (size (rule_node r)) h in
-      record {
-        refused = λ z room. answer_is room ∙ rw (l, n, p);
-        read = λ z. absurd (let y = sym n ∙ z in omega arith);
-        few = omega arith;
-        room = w;
-      }
+  many_refused h = let l = lt-ltb 1024 (size (rule_node r)) h in record { is = λ room. answer_is room ∙ rw l }
 
-  deep_reached : {words : List ℕ} {number place count : ℕ} → size (rule_node r) ≤ 1024 → 256 < depth (rule_node r) → length words ≡ 4096
-      → number ≡ 9 → place ≡ 0 → count ≡ 0 → Reached text words number place count
+  deep_refused : size (rule_node r) ≤ 1024 → 256 < depth (rule_node r) → Refuses text (refusal 9 0)
   unfolding refuse ◌or_else◌
-  deep_reached f h w n p c =
+  deep_refused f h =
       let l = le-ltb 1024 (size (rule_node r)) f in
       let k = lt-ltb 256 (depth (rule_node r)) h in
-      record {
-        refused = λ z room. answer_is room ∙ rw (l, k, n, p);
-        read = λ z. absurd (let y = sym n ∙ z in omega arith);
-        few = omega arith;
-        room = w;
-      }
+      record { is = λ room. answer_is room ∙ rw (l, k) }
 
-  fits_reached : {words : List ℕ} {count : ℕ} → count ≡ size (rule_node r) → count ≤ 1024 → depth (rule_node r) ≤ 256 → length words ≡ 4096
-      → take (4 * count) words ≡ table_of r → Reached text words 0 0 count
+  fits_reached : {Ns : Nodes} {count : ℕ} → count ≡ size (rule_node r) → count ≤ 1024 → depth (rule_node r) ≤ 256
+      → take (4 * count) Ns.words ≡ table_of r → Reached text Ns count
   unfolding refuse ◌or_else◌
-  fits_reached c f d w t =
+  fits_reached c f d t =
       let l = le-ltb 1024 (size (rule_node r)) (omega arith) in
       let k = le-ltb 256 (depth (rule_node r)) d in
       let g = typed_refusal_lem (read_in_grammar text e) in
       let m = table_length r in
-      record {
-        refused = λ z room. absurd (z refl);
-        read = λ z. (r, e, g ∙ rw (l, k), t, omega arith);
-        few = f;
-        room = w;
-      }
+      record { rule = r; reads = e; passes = g ∙ rw (l, k); words_are = t; amount = omega arith; few = f }
 
 -- what the arrays hold where one node is left
 one_left : (r : Rule) {roots deep words : List ℕ} {d c : ℕ} → Holds (rule_node r ∷ []) roots deep words d c
@@ -251,159 +220,132 @@ one_left r {deep = deep} {words = words} H =
 
 -- ---- the turn at the end
 
-module _ {text st ar roots deep words : List ℕ} {s : Standing} {b : Built} {at : ℕ}
-    (B : BeforeTurn text at st ar roots deep words s b) (h : length text ≤ at) {n : Next} (N : AtEnd st s at n) where
-  pub end_stuck : n.stuck ≡ true → (read_text text ≡ none) × (taken_of text ≡ n.end)
-  end_stuck e =
+module _ {text : List ℕ} {K : Stack} {Ns : Nodes} {s : Standing} {at : ℕ} (B : BeforeTurn text at K Ns s) (h : length text ≤ at) where
+  pub end_stuck : {end : ℕ} → LeftOpen K.tags s at end → Stuck text end
+  end_stuck O =
       let R = B.reading in
-      let o = N.left_open e in
-      let a : present (ends R.state) ≡ false = ends_complete R.state ∙ ap complete R.stands.shaped ∙ o.0 in
-      (end_reads R h ∙ absent_none (ends R.state) a, end_place R h ∙ sym o.1)
+      let a : present (ends R.state) ≡ false = ends_complete R.state ∙ ap complete R.stands.shaped ∙ O.left_open in
+      record { unread = end_reads R h ∙ absent_none (ends R.state) a; place = end_place R h ∙ sym O.end_is }
 
-  module _ (e : n.stuck ≡ false) where
+  module _ {n : Next} (N : AtEnd K.tags s at n) where
     there : (r : Rule) × Ended B.reading.state r
-    there = let o = N.over e in ended B.reading.state B.reading.stands o.0 o.1.1 refl
+    there = let o = N.over in ended B.reading.state B.reading.stands o.0 o.1.1 refl
 
     abbrev E : Ended B.reading.state there.0
     E = there.1
 
-    pub end_moving : Moving st ar roots deep words b s.top n.top n.act
+    pub end_moving : Moving K Ns s.top n.place.top n.place.act
     end_moving =
-        let o = N.over e in
+        let o = N.over in
         let a = o.3 in
         let t = o.4 in
         rw (a, t) (closing_all B.reading.state B.reading.stands o.0 E)
 
-    pub end_top : n.top ≤ 1543
-    end_top = let t = (N.over e).4 in omega arith
+    pub end_top : n.place.top ≤ 1543
+    end_top = let t = N.over.4 in omega arith
 
-    pub end_whole : {roots₂ deep₂ words₂ : List ℕ} {c : Built} {x : ℕ}
-        → Grown st ar roots deep words b s.top n.top n.act x roots₂ deep₂ words₂ c
-        → Whole text roots₂ deep₂ words₂ c × (n.end ≡ at + 1)
+    pub end_whole : {Ns₂ : Nodes} {x : ℕ} → Grown K Ns s.top n.place.top n.place.act x Ns₂ → Whole text Ns₂ × (n.end ≡ at + 1)
     unfolding sizes
-    end_whole {roots₂} {deep₂} {words₂} {c} {x} G =
-        let o = N.over e in
+    end_whole {Ns₂} {x} G =
+        let o = N.over in
         let a = o.3 in
         let t = o.4 in
-        let G₂ : Grown st ar roots deep words b s.top 0 0 x roots₂ deep₂ words₂ c = rw (a, t) at G in
+        let G₂ : Grown K Ns s.top 0 0 x Ns₂ = rw (a, t) at G in
         (whole o.0 G₂, o.2)
       where
-        whole : s.mode ≡ 6 → Grown st ar roots deep words b s.top 0 0 x roots₂ deep₂ words₂ c → Whole text roots₂ deep₂ words₂ c
+        whole : s.mode ≡ 6 → Grown K Ns s.top 0 0 x Ns₂ → Whole text Ns₂
         whole m G =
             record {
               rule = there.0;
               reads = end_reads B.reading h ∙ E.ends_as;
               held = λ z. let f = G.kept.same z in (closed_all B.reading.state B.reading.stands m E f G).held z (B.reading.stands.held f);
-              crowded = λ z. crowd z (ltb 1024 b.count) refl;
-              room = G.kept.room;
+              crowded = λ z. crowd z (ltb 1024 Ns.count) refl;
               most = G.kept.most;
             }
           where
-            crowd : 1024 < c.count → (v : Bool) → ltb 1024 b.count ≡ v → 1024 < size (rule_node there.0)
+            crowd : 1024 < Ns₂.count → (v : Bool) → ltb 1024 Ns.count ≡ v → 1024 < size (rule_node there.0)
             crowd z true f =
                 let g = not_larger B.reading.state B.reading.stands m E in
-                let k = B.reading.stands.crowded (ltb-true 1024 b.count f) in
+                let k = B.reading.stands.crowded (ltb-true 1024 Ns.count f) in
                 omega arith
             crowd z false f =
-                let l = ltb-false 1024 b.count f in
+                let l = ltb-false 1024 Ns.count f in
                 let k = (closed_all B.reading.state B.reading.stands m E l G).full z (B.reading.stands.held l) in
                 omega arith
 
 -- ---- `advance`: a token, or the end
 
-module _ {text st ar roots deep words : List ℕ} {s : Standing} {b : Built} {at : ℕ}
-    (B : BeforeTurn text at st ar roots deep words s b) {n : Next} (N : NextIs text at st s n) where
-  -- whether a byte is there
-  inside : {A : Type 0} → (at < length text → A) → (length text ≤ at → A) → A
-  inside {A} f g = by (ltb at (length text)) refl
-    where
-      by : (c : Bool) → ltb at (length text) ≡ c → A
-      by true e = f (ltb-true at (length text) e)
-      by false e = g (ltb-false at (length text) e)
+-- whether a byte is there
+inside : {A : Type 0} (text : List ℕ) (at : ℕ) → (at < length text → A) → (length text ≤ at → A) → A
+inside {A} text at f g = by (ltb at (length text)) refl
+  where
+    by : (c : Bool) → ltb at (length text) ≡ c → A
+    by true e = f (ltb-true at (length text) e)
+    by false e = g (ltb-false at (length text) e)
 
-  pub turn_stuck : {st₂ ar₂ roots₂ deep₂ words₂ : List ℕ} {r : Turn} → n.stuck ≡ true → (r.stuck ≡ true) × (r.end ≡ n.end)
-      → length words₂ ≡ 4096 → Turned text at st₂ ar₂ roots₂ deep₂ words₂ r
-  turn_stuck e q w =
-      let a = q.0 in
-      let b = q.1 in
-      record {
-        stuck = λ z. rw b (inside (λ h. token_stuck B N h e) (λ h. end_stuck B h (N.ends h) e));
-        room = w;
-        taken = λ z. never a z;
-        over = λ z. never a z;
-      }
+module _ {text : List ℕ} {K : Stack} {Ns : Nodes} {s : Standing} {at : ℕ} (B : BeforeTurn text at K Ns s) where
+  pub turn_stuck : {end : ℕ} → NoneNext text at K.tags s end → Stuck text end
+  turn_stuck N = inside text at (λ h. token_stuck B N h) (λ h. end_stuck B h (N.ends h))
 
-  module _ (e : n.stuck ≡ false) where
-    turn_moving : Moving st ar roots deep words b s.top n.top n.act
-    turn_moving = inside (λ h. token_moving B N h e) (λ h. end_moving B h (N.ends h) e)
+  module _ {n : Next} (N : NextIs text at K.tags s n) where
+    turn_moving : Moving K Ns s.top n.place.top n.place.act
+    turn_moving = inside text at (λ h. token_moving B N h) (λ h. end_moving B h (N.ends h))
 
-    turn_top : n.top ≤ 1543
-    turn_top = inside (λ h. token_top B N h e) (λ h. end_top B h (N.ends h) e)
+    turn_top : n.place.top ≤ 1543
+    turn_top = inside text at (λ h. token_top B N h) (λ h. end_top B h (N.ends h))
 
     -- the frames above the place of the move are to be closed
-    pub turn_lowers : Lowering st ar roots deep words b s.top n.top
+    pub turn_lowers : Lowering K Ns s.top n.place.top
     turn_lowers = lowers turn_moving
 
-    module _ {roots₁ deep₁ words₁ : List ℕ} {c : Built} (L : Lowered st ar roots deep words b s.top n.top roots₁ deep₁ words₁ c)
-        {p : Place} (pa : p.act ≡ n.act) (pt : p.top ≡ n.top) where
-      pub turn_performs : Performing st ar roots₁ deep₁ words₁ c s.left p
+    module _ {Ns₁ : Nodes} (L : Lowered K Ns s.top n.place.top Ns₁) where
+      pub turn_performs : Performing K Ns₁ s.left n.place
       turn_performs =
           let D = B.reading.stands in
           record {
-            making = rw pa (grow_makes turn_moving L);
+            making = grow_makes turn_moving L;
             left_fits = level_fits D;
-            top_fits = rw pt turn_top;
-            st_room = D.st_room;
-            ar_room = D.ar_room;
+            top_fits = turn_top;
           }
 
-      pub turn_moved : {st₂ ar₂ roots₂ deep₂ words₂ : List ℕ} {r : Turn} {x end : ℕ} → x ≡ n.number → end ≡ n.end
-          → Moved st ar roots₁ deep₁ words₁ c s.left p x end st₂ ar₂ roots₂ deep₂ words₂ r
-          → Turned text at st₂ ar₂ roots₂ deep₂ words₂ r
-      turn_moved {st₂} {ar₂} {roots₂} {deep₂} {words₂} {r} xe ne M =
-          let z = M.end_is ∙ ne in
-          let G : Grown st ar roots deep words b s.top n.top n.act n.number roots₂ deep₂ words₂ r.b =
-          grow_made turn_moving L (rw (← pa, ← xe) M.made) in
-          let E : Entered st ar s.left p n.number st₂ ar₂ r.s = rw xe at M.entered in
-          record {
-            stuck = λ y. never y M.going;
-            room = M.made.kept.room.words_room;
-            taken = λ y h. rw z (token_reading B N h e G pa pt E);
-            over = λ y h. rw z (end_whole B h (N.ends h) e G);
-          }
+      pub turn_moved : {K₂ : Stack} {Ns₂ : Nodes} {s₂ : Standing} → Moved K Ns₁ s.left n.place n.number K₂ Ns₂ s₂
+          → Turned text at K₂ Ns₂ s₂ n.end
+      turn_moved {K₂} {Ns₂} {s₂} M =
+          let G : Grown K Ns s.top n.place.top n.place.act n.number Ns₂ = grow_made turn_moving L M.made in
+          record { taken = λ h. token_reading B N h G M.entered; over = λ h. end_whole B h (N.ends h) G }
 
 -- ---- the loop of `read`: the text is read up to a place where no blank stands, or whole
 
-pub record Midway (text : List ℕ) (at : ℕ) (st ar roots deep words : List ℕ) (s : Standing) (b : Built) : Type 0 where
-  pub before : at ≤ length text → Reading text at st ar roots deep words s b
+pub record Midway (text : List ℕ) (at : ℕ) (K : Stack) (Ns : Nodes) (s : Standing) : Type 0 where
+  pub before : at ≤ length text → Reading text at K Ns s
   pub no_blank : at < length text → is_blank (get_or text at 0) ≡ false
-  pub after : length text < at → Whole text roots deep words b
+  pub after : length text < at → Whole text Ns
 
-pub midway_read : {text st ar roots deep words : List ℕ} {s : Standing} {b : Built} {at r : ℕ} → Reading text at st ar roots deep words s b
+pub midway_read : {text : List ℕ} {K : Stack} {Ns : Nodes} {s : Standing} {at r : ℕ} → Reading text at K Ns s
     → Skipped text at r
-    → Midway text r st ar roots deep words s b
+    → Midway text r K Ns s
 midway_read R k =
     let w = k.within R.inside in
     record { before = λ h. skipped_read k R; no_blank = k.stops; after = λ h. absurd (omega arith) }
 
-pub before_turn : {text st ar roots deep words : List ℕ} {s : Standing} {b : Built} {at : ℕ} → Midway text at st ar roots deep words s b
-    → at ≤ length text → length text < 18446744073709551615 → BeforeTurn text at st ar roots deep words s b
+pub before_turn : {text : List ℕ} {K : Stack} {Ns : Nodes} {s : Standing} {at : ℕ} → Midway text at K Ns s
+    → at ≤ length text → length text < 18446744073709551615 → BeforeTurn text at K Ns s
 before_turn M h l = record { reading = M.before h; no_blank = M.no_blank; small = omega arith }
 
-pub midway_on : {text st ar roots deep words : List ℕ} {at r : ℕ} {t : Turn} → Turned text at st ar roots deep words t → t.stuck ≡ false
-    → Skipped text t.end r
-    → Midway text r st ar roots deep words t.s t.b × (at < r)
-midway_on {text} {st} {ar} {roots} {deep} {words} {at} {r} {t} T e k = by (ltb at (length text)) refl
+pub midway_on : {text : List ℕ} {K : Stack} {Ns : Nodes} {s : Standing} {at end r : ℕ} → Turned text at K Ns s end
+    → Skipped text end r
+    → Midway text r K Ns s × (at < r)
+midway_on {text} {K} {Ns} {s} {at} {end} {r} T k = by (ltb at (length text)) refl
   where
-    by : (c : Bool) → ltb at (length text) ≡ c → Midway text r st ar roots deep words t.s t.b × (at < r)
+    by : (c : Bool) → ltb at (length text) ≡ c → Midway text r K Ns s × (at < r)
     by true z =
-        let q = T.taken e (ltb-true at (length text) z) in
+        let q = T.taken (ltb-true at (length text) z) in
         let f = k.forth in
         let l = q.1 in
         (midway_read q.0 k, omega arith)
     by false z =
         let h = ltb-false at (length text) z in
-        let q = T.over e h in
+        let q = T.over h in
         let l = q.1 in
         let p = k.past (omega arith) in (
           record { before = λ m. absurd (omega arith); no_blank = λ m. absurd (omega arith); after = λ m. q.0 },
@@ -412,34 +354,31 @@ midway_on {text} {st} {ar} {roots} {deep} {words} {at} {r} {t} T e k = by (ltb a
 
 -- ---- the answer, once the text is read whole
 
-module _ {text roots deep words : List ℕ} {b : Built} (W : Whole text roots deep words b) where
-  pub whole_reached : {number place count : ℕ} → Finished deep b number place count → Reached text words number place count
-  whole_reached {number} {place} {count} F = by (ltb 1024 b.count) refl
-    where
-      w : length words ≡ 4096
-      w = W.room.words_room
+abbrev Told : List ℕ → Nodes → Result ℕ Refusal → Type 0
+Told text Ns r = MatchResult r (Reached text Ns) (Refuses text)
 
-      fits : b.count ≤ 1024 → (c : Bool) → ltb 256 (get_or deep 0 0) ≡ c → Reached text words number place count
+module _ {text : List ℕ} {Ns : Nodes} (W : Whole text Ns) {r : Result ℕ Refusal} (F : Finished Ns r) where
+  pub whole_told : MatchResult r (Reached text Ns) (Refuses text)
+  whole_told = by (ltb 1024 Ns.count) refl
+    where
+      fits : Ns.count ≤ 1024 → (c : Bool) → ltb 256 (get_or Ns.deep 0 0) ≡ c → Told text Ns r
       fits f true l =
           let o = one_left W.rule (W.held f) in
           let n = o.0 in
           let d = o.1 in
-          let m = ltb-true 256 (get_or deep 0 0) l in
+          let m = ltb-true 256 (get_or Ns.deep 0 0) l in
           let q = F.too_deep f m in
-          deep_reached text W.rule W.reads (omega arith) (omega arith) w q.0 q.1 q.2
+          rw q (deep_refused text W.rule W.reads (omega arith) (omega arith))
       fits f false l =
           let o = one_left W.rule (W.held f) in
           let d = o.1 in
-          let m = ltb-false 256 (get_or deep 0 0) l in
+          let m = ltb-false 256 (get_or Ns.deep 0 0) l in
           let q = F.fits f m in
-          let n = q.0 in
-          let p = q.1 in
-          let c = q.2 in
-          rw (n, p, c) (fits_reached text W.rule W.reads o.0 f (omega arith) w o.2)
+          rw q (fits_reached text W.rule W.reads o.0 f (omega arith) o.2)
 
-      by : (c : Bool) → ltb 1024 b.count ≡ c → Reached text words number place count
+      by : (c : Bool) → ltb 1024 Ns.count ≡ c → Told text Ns r
       by true e =
-          let f = ltb-true 1024 b.count e in
+          let f = ltb-true 1024 Ns.count e in
           let q = F.too_many f in
-          many_reached text W.rule W.reads (W.crowded f) w q.0 q.1 q.2
-      by false e = fits (ltb-false 1024 b.count e) (ltb 256 (get_or deep 0 0)) refl
+          rw q (many_refused text W.rule W.reads (W.crowded f))
+      by false e = fits (ltb-false 1024 Ns.count e) (ltb 256 (get_or Ns.deep 0 0)) refl

@@ -8,42 +8,43 @@ use lib.Seq.{sets}
 use borrow.Author.Tests.{lt-ltb, le-ltb}
 use Rattle.rules.specs.Refusal.{refusal, refuse, ◌or_else◌}
 use Rattle.rules.specs.Answer.{ended, unless_refused}
-use Rattle.rules.specs.declared.Text.{Text}
+use Rattle.rules.specs.declared.Refusal.{Refusal}
 use Rattle.grammar.specs.Written.{table_of}
-use Rattle.grammar.specs.Typed.{told, table_answer}
+use Rattle.grammar.specs.Typed.{table_answer}
 use Rattle.grammar.specs.machine.Answer.{refusal_of, words_unless, table_of_read, typed_refusal, typed_words}
 use Rattle.rule.specs.ReadingRule.{reading_rule}
-use Rattle.rule.specs.inside.Turns.{Reached}
+use Rattle.rule.specs.declared.nodes.Nodes.{Nodes}
+use Rattle.rule.specs.inside.Turns.{Reached, Refuses}
+use Rattle.std.specs.Prelude.{Ok, Err}
 
-module _ {text words : List ℕ} {number place count : ℕ} (R : Reached text words number place count) (room : List ℕ) where
-  pub ends_refused : {p : ℕ} → (number ≡ 0 → ⊥) → p ≡ told place → ended (Text.Refused (refusal number p)) room ≡ reading_rule text room
+module _ (text room : List ℕ) where
+  pub ends_refused : {r : Refusal} → Refuses text r → ended (Err r) room ≡ reading_rule text room
   unfolding reading_rule unless_refused
-  ends_refused h e = let q = R.refused h (length room) in rw (q, e)
+  ends_refused R = let q = R.is (length room) in rw q
 
-  module _ (z : number ≡ 0) where
+  module _ {Ns : Nodes} {count : ℕ} (R : Reached text Ns count) where
     answers : typed_refusal text (length room) ≡ refuse (ltb (length room) (4 * count)) 15 0
     unfolding typed_refusal refusal_of table_answer ◌or_else◌
     answers =
-        let r = R.read z in
-        let e = r.1 in
-        let t = r.2 in
-        let l = r.4 in
+        let e = R.reads in
+        let t = R.passes in
+        let l = R.amount in
         rw (e, t, l)
 
-    pub ends_short : length room < 4 * count → ended (Text.Refused (refusal 15 0)) room ≡ reading_rule text room
+    pub ends_short : length room < 4 * count → ended (Err (refusal 15 0)) room ≡ reading_rule text room
     unfolding reading_rule unless_refused refuse
     ends_short h = let l = lt-ltb (length room) (4 * count) h in rw (answers, l)
 
-    words_are : 4 * count ≤ length room → typed_words text (length room) ≡ table_of (R.read z).0
+    words_are : 4 * count ≤ length room → typed_words text (length room) ≡ table_of R.rule
     unfolding typed_words words_unless table_of_read refuse
-    words_are h = let l = le-ltb (length room) (4 * count) h in let e = (R.read z).1 in rw (answers, l, e)
+    words_are h = let l = le-ltb (length room) (4 * count) h in let e = R.reads in rw (answers, l, e)
 
-    pub ends_done : {after : List ℕ} {n : ℕ} → 4 * count ≤ length room → after ≡ sets room 0 (take n words) → n ≡ 4 * count
-        → ended (Text.Done n) after ≡ reading_rule text room
+    pub ends_done : {after : List ℕ} {n : ℕ} → 4 * count ≤ length room → after ≡ sets room 0 (take n Ns.words) → n ≡ 4 * count
+        → ended (Ok n) after ≡ reading_rule text room
     unfolding reading_rule unless_refused refuse
     ends_done h e a =
         let l = le-ltb (length room) (4 * count) h in
         let w = words_are h in
-        let t = (R.read z).3 in
-        let m = (R.read z).4 in
+        let t = R.words_are in
+        let m = R.amount in
         rw (answers, l, w, m, e, a, t)

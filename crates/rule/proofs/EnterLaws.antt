@@ -7,6 +7,7 @@ use Rattle.grammar.specs.Token.{Token}
 use Rattle.grammar.specs.Written.{Node}
 use Rattle.grammar.specs.Grammar.{nesting}
 use Rattle.grammar.specs.machine.Reader.{State}
+use Rattle.tokens.specs.declared.moves.Stack.{Stack}
 use Rattle.tokens.specs.declared.moves.Standing.{Standing}
 use Rattle.tokens.specs.declared.moves.Place.{Place}
 use Rattle.tokens.specs.Flat.{move_at, Figure, figure_number, Frame, frame, tag_of, figure_of, waiting_in}
@@ -19,7 +20,7 @@ use Rattle.tokens.specs.Shape
 use Rattle.tokens.specs.Arrays.{stack, Located, counted_number, taken_number, number_at, entered, Entered}
 use Rattle.tokens.proofs.ShapeLaws.{Leads}
 use Rattle.tokens.proofs.NodeLaws.{nodes_length, kind_few}
-use Rattle.rule.specs.declared.nodes.Built.{Built}
+use Rattle.rule.specs.declared.nodes.Nodes.{Nodes}
 use Rattle.rule.specs.inside.Nodes.{figures}
 use Rattle.rule.specs.inside.Turns.{Stands, Grown}
 use Rattle.rule.proofs.HoldLaws.{length_least}
@@ -103,7 +104,7 @@ enter_figures left x a gs ns c h =
 
 -- ---- a token is taken
 
-left_is : {st ar roots deep words : List ℕ} {s : Standing} {b : Built} (S : State nesting) → Stands S st ar roots deep words s b
+left_is : {K : Stack} {Ns : Nodes} {s : Standing} (S : State nesting) → Stands S K Ns s
     → left_of (flat_of S) ≡ s.left
 unfolding left_of Shape.left_of forget
 left_is S D = same (flat_of S) (ap Shape.left_of D.shaped)
@@ -111,12 +112,12 @@ left_is S D = same (flat_of S) (ap Shape.left_of D.shaped)
     same : {n : ℕ} (F : Flat) → Shape.left_of (forget F) ≡ n → left_of F ≡ n
     same (flat mode left fs ns) e = e
 
-pub turned : {st ar roots deep words st₂ ar₂ roots₂ deep₂ words₂ : List ℕ} {s r : Standing} {b c : Built} {a to x : ℕ} {p : Place}
+pub turned : {K K₂ : Stack} {Ns Ns₂ : Nodes} {s r : Standing} {a to x : ℕ} {p : Place}
     (S : State nesting) (t : Token)
-    → Stands S st ar roots deep words s b → Located st s (kind_of t) a to → figure_number (figure t) ≡ x → (l : Leads S t a (stack st to))
-    → Grown st ar roots deep words b s.top to a x roots₂ deep₂ words₂ c → p.act ≡ a → p.top ≡ to → Entered st ar s.left p x st₂ ar₂ r
-    → Stands l.state st₂ ar₂ roots₂ deep₂ words₂ r c
-turned {st} {ar} {st₂ = st₂} {ar₂ = ar₂} {s = s} {r = r} {b = b} {c = c} {a = a} {to = to} {x = x} {p = p} S t D L n l G pa pt E =
+    → Stands S K Ns s → Located K.tags s (kind_of t) a to → figure_number (figure t) ≡ x → (l : Leads S t a (stack K.tags to))
+    → Grown K Ns s.top to a x Ns₂ → p.act ≡ a → p.top ≡ to → Entered K.tags K.figures s.left p x K₂.tags K₂.figures r
+    → Stands l.state K₂ Ns₂ r
+turned {K} {K₂ = K₂} {Ns = Ns} {s = s} {r = r} {a = a} {to = to} {x = x} {p = p} S t D L n l G pa pt E =
     let sh = enter_shape (left_of (flat_of S)) (figure t) a l.frames_left l.nodes_left in
     let e = E.tags_are in
     let li = left_is S D in
@@ -126,13 +127,10 @@ turned {st} {ar} {st₂ = st₂} {ar₂ = ar₂} {s = s} {r = r} {b = b} {c = c}
       figured = λ f. figured_next (G.kept.same f);
       held = grown_held G S t D n l;
       crowded = grown_crowded G S t D n l;
-      room = G.kept.room;
       most = G.kept.most;
-      st_room = E.room.0 ∙ D.st_room;
-      ar_room = E.room.1 ∙ D.ar_room;
     }
   where
-    waits_few : b.count ≤ 1024 → waiting_all l.frames_left ≤ 1024
+    waits_few : Ns.count ≤ 1024 → waiting_all l.frames_left ≤ 1024
     waits_few f =
         let w = (left_passed S t D l).waits in
         let m = nodes_length S in
@@ -140,7 +138,7 @@ turned {st} {ar} {st₂ = st₂} {ar₂ = ar₂} {s = s} {r = r} {b = b} {c = c}
         let q = (D.held f).count_is in
         omega arith
 
-    figured_next : b.count ≤ 1024 → figures (frames_of (flat_of l.state)) ≡ stack ar₂ r.top
+    figured_next : Ns.count ≤ 1024 → figures (frames_of (flat_of l.state)) ≡ stack K₂.figures r.top
     figured_next f =
         let g = (left_passed S t D l).figures_are (D.figured f) in
         let q = enter_figures (left_of (flat_of S)) (figure t) a l.frames_left l.nodes_left

@@ -6,12 +6,12 @@ use native.Mathlib.Omega.{arith}
 use lib.ListN.{length}
 use Rattle.rules.specs.Table.{Kind, negation, both, assign}
 use Rattle.grammar.specs.Written.{Node, kind_number}
-use Rattle.tokens.specs.Flat.{one, two, form_of, make, arity, sequences, Figure, amount, kind, figure_number, figure_kind}
+use Rattle.tokens.specs.Flat.{Form, one, two, make, arity, sequences, Figure, amount, kind, figure_number, figure_kind}
 use Rattle.tokens.specs.Flat.{Frame, frame, tag_of, figure_of, closing, waiting_in}
 use Rattle.tokens.proofs.NodeLaws.{Closes, both_parts, row, negated, alone, assignment, operation, closes_as, operation_closing, operation_waits}
-use Rattle.rule.specs.declared.nodes.Built.{Built}
+use Rattle.rule.specs.declared.nodes.Nodes.{Nodes}
 use Rattle.rule.specs.inside.Nodes.{Making, Made, Rowing, RowMade, kind_of_two, Kinded, Closable, Closing, Closed}
-use Rattle.rule.proofs.FormLaws.{closing_form, closing_kind, form_few, form_two, kind_own, kind_two}
+use Rattle.rule.proofs.FormLaws.{closing_form, closing_kind, form_two, kind_own}
 
 any_two : (k : Kind) (x y : ℕ) (ns : List Node) → make two k x ns ≡ make two k y ns
 unfolding make
@@ -27,9 +27,9 @@ any_one k x y (a ∷ ns) = refl
 -- a frame other than a row's makes one node, or none
 record Makes (F : Frame) (f x : ℕ) (ns : List Node) : Type 0 where
   of : Kind
-  is : closing F ns ≡ make (form_of (closing_form f)) of x ns
+  is : closing F ns ≡ make (closing_form f) of x ns
   number : kind_number of ≡ closing_kind f x
-  parts : arity (form_of (closing_form f)) ≤ length ns
+  parts : arity (closing_form f) ≤ length ns
 
 own_kind : (j : ℕ) (fig : Figure) → Kinded (frame (29 + j) fig) → kind_number (figure_kind fig) ≡ figure_number fig
 unfolding Kinded figure_kind figure_number
@@ -38,12 +38,12 @@ own_kind j (kind k) h = refl
 
 operation_makes : (j : ℕ) (fig : Figure) (ns : List Node) (m : ℕ) → Kinded (frame (29 + j) fig)
     → length ns ≡ suc (waiting_in (frame (29 + j) fig) + m) → Makes (frame (29 + j) fig) (29 + j) (figure_number fig) ns
-unfolding form_of arity
+unfolding arity
 operation_makes j fig ns m K e =
     let w = operation_waits j fig in
-    let form : 3 ≡ closing_form (29 + j) = form_two (λ q. omega arith) (λ q. omega arith) in
+    let form : two ≡ closing_form (29 + j) = form_two (λ q. omega arith) (λ q. omega arith) in
     let number : figure_number fig ≡ closing_kind (29 + j) (figure_number fig) =
-    kind_own (figure_number fig) (λ q. omega arith) ∙ kind_two (figure_number fig) (λ q. omega arith) (λ q. omega arith) in
+    kind_own (figure_number fig) (λ q. omega arith) (λ q. omega arith) (λ q. omega arith) in
     record {
       of = figure_kind fig;
       is = operation_closing j fig ns ∙ rw (← form) (any_two (figure_kind fig) 0 (figure_number fig) ns);
@@ -54,7 +54,7 @@ operation_makes j fig ns m K e =
 makes_by : {f : ℕ} → Closes f → (fig : Figure) (ns : List Node) (m : ℕ) → Kinded (frame f fig)
     → length ns ≡ suc (waiting_in (frame f fig) + m)
     → (f ≡ 19 → ⊥) → (f ≡ 27 → ⊥) → Makes (frame f fig) f (figure_number fig) ns
-unfolding closing closing_form closing_kind kind_of_two form_of arity waiting_in kind_number
+unfolding closing closing_form closing_kind kind_of_two arity waiting_in kind_number
 makes_by both_parts fig ns m K e n l = record { of = both; is = any_two both 0 (figure_number fig) ns; number = refl; parts = omega arith }
 makes_by row fig ns m K e n l = absurd (n refl)
 makes_by negated fig ns m K e n l =
@@ -91,21 +91,20 @@ row_parts {F = F} c e =
     let l = c.enough in
     omega arith
 
-module _ {roots deep words : List ℕ} {b : Built} {f x : ℕ} (C : Closing roots deep words b f x) where
-  pub close_alone : f ≡ 27 → Closed roots deep words b f x roots deep words b
+module _ {Ns : Nodes} {f x : ℕ} (C : Closing Ns f x) where
+  pub close_alone : f ≡ 27 → Closed Ns f x Ns
   close_alone e =
       record {
         become = λ F ns c. record {
           held = λ z H. let q = closing_alone F ns (c.tag_is ∙ e) in rw q H;
           full = λ z H. let q = closing_alone F ns (c.tag_is ∙ e) in let t = H.count_is in rw q (omega arith);
         };
-        kept = record { room = C.room; most = C.most; same = λ e. e };
+        kept = record { most = C.most; same = λ e. e };
       }
 
-  pub close_groups : f ≡ 19 → Rowing roots deep words b x
+  pub close_groups : f ≡ 19 → Rowing Ns x
   close_groups e =
       record {
-        room = C.room;
         most = C.most;
         some = λ h.
             let S = C.some h in
@@ -113,8 +112,8 @@ module _ {roots deep words : List ℕ} {b : Built} {f x : ℕ} (C : Closing root
             record { nodes = S.nodes; held = S.held; parts = omega arith };
       }
 
-  pub close_row : {roots₂ deep₂ words₂ : List ℕ} {r : Built} → f ≡ 19 → RowMade roots deep words b x roots₂ deep₂ words₂ r
-      → Closed roots deep words b f x roots₂ deep₂ words₂ r
+  pub close_row : {Ns₂ : Nodes} → f ≡ 19 → RowMade Ns x Ns₂
+      → Closed Ns f x Ns₂
   close_row e M =
       record {
         become = λ F ns c.
@@ -124,20 +123,18 @@ module _ {roots deep words : List ℕ} {b : Built} {f x : ℕ} (C : Closing root
         kept = M.kept;
       }
 
-  pub close_makes : {form : ℕ} → (f ≡ 27 → ⊥) → (f ≡ 19 → ⊥) → form ≡ closing_form f → Making roots deep words b form
+  pub close_makes : {form : Form} → (f ≡ 27 → ⊥) → (f ≡ 19 → ⊥) → form ≡ closing_form f → Making Ns form
   close_makes l n e =
       record {
-        room = C.room;
         most = C.most;
-        form_is = rw e (form_few f);
         some = λ h.
             let S = C.some h in
             record { nodes = S.nodes; held = S.held; parts = rw e (makes S.closable n l).parts };
       }
 
-  pub close_made : {roots₂ deep₂ words₂ : List ℕ} {r : Built} {form kind : ℕ} → (f ≡ 27 → ⊥) → (f ≡ 19 → ⊥) → form ≡ closing_form f
+  pub close_made : {Ns₂ : Nodes} {form : Form} {kind : ℕ} → (f ≡ 27 → ⊥) → (f ≡ 19 → ⊥) → form ≡ closing_form f
       → kind ≡ closing_kind f x
-      → Made roots deep words b form kind x roots₂ deep₂ words₂ r → Closed roots deep words b f x roots₂ deep₂ words₂ r
+      → Made Ns form kind x Ns₂ → Closed Ns f x Ns₂
   close_made l n e d M =
       record {
         become = λ F ns c.

@@ -3,8 +3,8 @@ use mathlib.Core.Path.{◌≡◌, refl, sym, ap, ◌∙◌}
 use mathlib.Core.List.{List, [], ◌∷◌, ◌++◌, append_assoc}
 use Prim.Native.Nat.{ℕ, suc, ◌+◌, ◌*◌, ◌-◌, ◌<◌, ◌≤◌, max}
 use native.Mathlib.Omega.{arith}
-use lib.ListN.{length, get_or, take, set, length-set}
-use lib.Seq.{take-suc-set}
+use lib.ListN.{length, get_or, take, drop, set, length-append}
+use lib.Seq.{take_at, length-take-le}
 use Rattle.rules.specs.Table.{Kind}
 use Rattle.grammar.specs.Written.{Node, node, plain, child, kind_number, size, size_below, depth, depth_below, word_at, written, written_below}
 use Rattle.tokens.specs.Flat.{Form, no_node, leaf, one, two, three, numbered, make, arity, sizes}
@@ -15,26 +15,15 @@ use Rattle.grammar.proofs.table.TypedTable.{size_some}
 
 -- ---- four words
 
-four_words : (l : List ℕ) (i a b c d : ℕ) → i + 4 ≤ length l
-    → take (i + 4) (set (set (set (set l i a) (i + 1) b) (i + 2) c) (i + 3) d) ≡ take i l ++ (a ∷ b ∷ c ∷ d ∷ [])
-four_words l i a b c d h =
-    let e1 : i + 1 ≡ suc i = omega arith in
-    let e2 : i + 2 ≡ suc (i + 1) = omega arith in
-    let e3 : i + 3 ≡ suc (i + 2) = omega arith in
-    let e4 : i + 4 ≡ suc (i + 3) = omega arith in
-    let l1 = set l i a in
-    let l2 = set l1 (i + 1) b in
-    let l3 = set l2 (i + 2) c in
-    let s1 : take (i + 1) l1 ≡ take i l ++ (a ∷ []) = rw e1 (take-suc-set l i a (omega arith)) in
-    let s2 : take (i + 2) l2 ≡ take (i + 1) l1 ++ (b ∷ []) = rw e2 (take-suc-set l1 (i + 1) b (simp length-set (omega arith))) in
-    let s3 : take (i + 3) l3 ≡ take (i + 2) l2 ++ (c ∷ []) = rw e3 (take-suc-set l2 (i + 2) c (simp length-set (omega arith))) in
-    let l4 = set l3 (i + 3) d in
-    let s4 : take (i + 4) l4 ≡ take (i + 3) l3 ++ (d ∷ []) = rw e4 (take-suc-set l3 (i + 3) d (simp length-set (omega arith))) in
-    s4 ∙ rw (s3, s2, s1) (simp append_assoc)
-
-pub put_is : (l : List ℕ) (count a b c d : ℕ) → count < 1024 → length l ≡ 4096
-    → Put l count a b c d (set (set (set (set l (4 * count) a) (4 * count + 1) b) (4 * count + 2) c) (4 * count + 3) d)
-put_is l count a b c d h k = record { front = four_words l (4 * count) a b c d (omega arith); room = simp length-set }
+-- a row of four that is copied there comes after what stood before it
+pub put_is : (l : List ℕ) (count a b c d : ℕ) → 4 * count + 4 ≤ length l
+    → Put l count a b c d (take (4 * count) l ++ (a ∷ b ∷ c ∷ d ∷ drop (4 * count + 4 - 4 * count) (drop (4 * count) l)))
+put_is l count a b c d h =
+    let before = take (4 * count) l in
+    let row = a ∷ b ∷ c ∷ d ∷ [] in
+    let rest = drop (4 * count + 4 - 4 * count) (drop (4 * count) l) in
+    let n : length (before ++ row) ≡ 4 * count + 4 = length-append before row ∙ ap (λ (k : ℕ). k + 4) (length-take-le (4 * count) l (omega arith)) in
+    record { front = ap (take (4 * count + 4)) (sym (append_assoc before row rest)) ∙ take_at (before ++ row) rest (4 * count + 4) n }
 
 -- ---- the nodes that arrays hold
 

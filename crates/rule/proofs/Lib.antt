@@ -12,7 +12,6 @@ pub mod EnterLaws
 pub mod ReadLaws
 pub mod EndLaws
 pub mod PhraseLaws
-pub mod CopyLaws
 pub mod Endings
 -- and that its contract admits one answer
 pub mod Determined

@@ -1,21 +1,22 @@
 -- The loop over the text: its invariant holds at the start, over blanks and over a token; and what it tells where the reader is stuck.
 use mathlib.Core.Path.{◌≡◌, refl, sym, ◌∙◌}
-use mathlib.Core.Bool.{Bool, true, false}
+use mathlib.Core.Bool.{true}
 use mathlib.Core.List.{List, ◌∷◌}
-use mathlib.Core.Option.{none}
 use Prim.Native.Nat.{ℕ, zero, suc, ◌+◌, ◌-◌, ◌<◌, ◌≤◌}
 use native.Mathlib.Numerals.{add-one}
 use native.Mathlib.Omega.{arith}
-use lib.Dec.{ltb, leb}
 use lib.ListN.{length, get_or, drop, length-drop}
 use lib.Seq.{drop-cons}
-use borrow.Author.Tests.{ltb-true, ltb-false, leb-true, leb-false}
 use Rattle.grammar.specs.Spelling.{is_blank}
 use Rattle.grammar.specs.machine.Reader.{start}
 use Rattle.grammar.specs.machine.Bytes.{read_text, taken_of}
+use Rattle.grammar.specs.Typed.{told}
 use Rattle.grammar.specs.machine.Answer.{refusal_of, typed_refusal}
+use Rattle.std.specs.Prelude.{Result, Ok, Err, MatchResult, IsErrAnd}
+use Rattle.rules.specs.Refusal.{refusal}
+use Rattle.rules.specs.declared.Refusal.{Refusal}
 use Rattle.grammar.proofs.bytes.TokenLaw.{same_then, blank_same}
-use Rattle.tokens.specs.declared.moves.Place.{Place}
+use Rattle.tokens.specs.declared.moves.Stack.{Stack}
 use Rattle.tokens.specs.declared.moves.Standing.{Standing}
 use Rattle.grammar.specs.Token.{Token}
 use Rattle.tokens.specs.declared.Found.{Found}
@@ -23,45 +24,44 @@ use Rattle.tokens.specs.Taken.{Taken}
 use Rattle.tokens.specs.Flat.{sizes, figure_number, figure_of, tag_of, frames_of, nodes_of}
 use Rattle.tokens.specs.Stand.{kind_of, earlier, frames, kept, flat_of}
 use Rattle.tokens.specs.Shape.{tags, forget}
-use Rattle.tokens.specs.Arrays.{stack, Located, Entered}
+use Rattle.tokens.specs.Arrays.{standing, stack, Located, Entered}
+use Rattle.tokens.specs.Scan.{StuckAt}
 use Rattle.tokens.proofs.ShapeLaws.{Leads}
 use Rattle.rule.specs.declared.turns.Next.{Next}
-use Rattle.rule.specs.declared.nodes.Built.{Built}
-use Rattle.rule.specs.inside.Nodes.{roots_of, depths_of, written_of, figures}
-use Rattle.rule.specs.inside.Turns.{Stands, Moving, Grown, Reading, Skipped, BeforeTurn, AtNext, AtEnd, NextIs, Reached}
-use Rattle.rule.proofs.MakeLaws.{never}
+use Rattle.rule.specs.declared.nodes.Nodes.{Nodes}
+use Rattle.rule.specs.inside.Nodes.{Holds, roots_of, depths_of, written_of, figures}
+use Rattle.rule.specs.inside.Turns.{Stands, Moving, Grown, Reading, Skipped, NoNodes, BeforeTurn, AtNext, AtEnd, LeftOpen, NextIs, NoneNext, Stuck, Refuses}
 use Rattle.rule.proofs.TurnLaws.{moving, leads, top_few, top_fits}
 use Rattle.rule.proofs.EnterLaws.{turned}
 
 -- ---- the start
 
-pub starts : {text st ar roots deep words : List ℕ} {s : Standing} {b : Built} → length st ≡ 1600 → get_or st 0 0 ≡ 19
-    → length ar ≡ 1600 → get_or ar 0 0 ≡ 0
-    → length roots ≡ 1028 → length deep ≡ 1028 → length words ≡ 4096 → s.mode ≡ 0 → s.left ≡ 256 → s.top ≡ 1
-    → b.depth ≡ 0 → b.count ≡ 0 → Reading text 0 st ar roots deep words s b
+pub starts : {text : List ℕ} {K : Stack} {Ns : Nodes} {s : Standing} → get_or K.tags 0 0 ≡ 19 → get_or K.figures 0 0 ≡ 0 → NoNodes Ns → s.mode ≡ 0 → s.left ≡ 256 → s.top ≡ 1 → Reading text 0 K Ns s
 unfolding flat_of forget frames kept earlier frames_of nodes_of tags tag_of figures figure_of figure_number stack roots_of depths_of written_of sizes
-starts ls s0 la a0 lr ld lw m l t d c =
+starts {Ns = Ns} s0 a0 N m l t =
+    let d = N.none_there in
+    let c = N.none_written in
     record {
       state = start;
       stands = record {
         shaped = rw (m, l, t, s0);
         figured = λ e. rw (t, a0);
-        held = λ e. rw (d, c) (record { roots_are = refl; depths_are = refl; words_are = refl; count_is = refl });
+        held = λ e. held d c;
         crowded = λ e. absurd (omega arith);
-        room = record { roots_room = lr; deep_room = ld; words_room = lw };
         most = omega arith;
-        st_room = ls;
-        ar_room = la;
       };
       same = record { reads = refl; place = refl };
       inside = omega arith;
     }
+  where
+    held : {d c : ℕ} → d ≡ 0 → c ≡ 0 → Holds (nodes_of (flat_of start)) Ns.roots Ns.deep Ns.words d c
+    held d c = rw (d, c) (record { roots_are = refl; depths_are = refl; words_are = refl; count_is = refl })
 
 -- ---- blanks
 
-blank_read : {text st ar roots deep words : List ℕ} {s : Standing} {b : Built} {at : ℕ}
-    → Reading text at st ar roots deep words s b → at < length text → is_blank (get_or text at 0) ≡ true
-    → Reading text (at + 1) st ar roots deep words s b
+blank_read : {text : List ℕ} {K : Stack} {Ns : Nodes} {s : Standing} {at : ℕ}
+    → Reading text at K Ns s → at < length text → is_blank (get_or text at 0) ≡ true
+    → Reading text (at + 1) K Ns s
 blank_read {text} {at = at} r l blank =
     let split : drop at text ≡ get_or text at 0 ∷ drop (at + 1) text = rw (add-one at) (drop-cons text at 0 l) in
     record {
@@ -71,15 +71,15 @@ blank_read {text} {at = at} r l blank =
       inside = omega arith;
     }
 
-pub blanks_read : {text st ar roots deep words : List ℕ} {s : Standing} {b : Built} (n at : ℕ) {r : ℕ} → r ≡ at + n → r ≤ length text
-    → ((i : ℕ) → at ≤ i → i < r → is_blank (get_or text i 0) ≡ true) → Reading text at st ar roots deep words s b
-    → Reading text r st ar roots deep words s b
+pub blanks_read : {text : List ℕ} {K : Stack} {Ns : Nodes} {s : Standing} (n at : ℕ) {r : ℕ} → r ≡ at + n → r ≤ length text
+    → ((i : ℕ) → at ≤ i → i < r → is_blank (get_or text i 0) ≡ true) → Reading text at K Ns s
+    → Reading text r K Ns s
 blanks_read zero at {r} e h k R = let z : r ≡ at = omega arith in rw z R
 blanks_read (suc n) at e h k R =
     blanks_read n (at + 1) (omega arith) h (λ i l m. k i (omega arith) m) (blank_read R (omega arith) (k at (omega arith) (omega arith)))
 
-pub skipped_read : {text st ar roots deep words : List ℕ} {s : Standing} {b : Built} {at r : ℕ} → Skipped text at r
-    → Reading text at st ar roots deep words s b → Reading text r st ar roots deep words s b
+pub skipped_read : {text : List ℕ} {K : Stack} {Ns : Nodes} {s : Standing} {at r : ℕ} → Skipped text at r
+    → Reading text at K Ns s → Reading text r K Ns s
 skipped_read {at = at} {r = r} k R =
     let i = R.inside in
     let f = k.forth in
@@ -94,77 +94,54 @@ pub record Skipping (text : List ℕ) (from at : ℕ) : Type 0 where
   pub past : length text < from → at ≡ from
   pub blanks : (i : ℕ) → from ≤ i → i < at → is_blank (get_or text i 0) ≡ true
 
-pub skipping_starts : (text : List ℕ) (from : ℕ) → Skipping text from from
-skipping_starts text from = record { forth = omega arith; within = λ h. h; past = λ h. refl; blanks = λ i h l. absurd (omega arith) }
-
-pub skipping_on : {text : List ℕ} {from at : ℕ} → Skipping text from at → at < length text → is_blank (get_or text at 0) ≡ true
-    → Skipping text from (at + 1)
-skipping_on {text} {from} {at} k h e =
-    let f = k.forth in
-    record {
-      forth = omega arith;
-      within = λ l. omega arith;
-      past = λ l. absurd (omega arith);
-      blanks = λ i l m. by i l m (ltb i at) refl;
-    }
-  where
-    by : (i : ℕ) → from ≤ i → i < at + 1 → (b : Bool) → ltb i at ≡ b → is_blank (get_or text i 0) ≡ true
-    by i l m true t = k.blanks i l (ltb-true i at t)
-    by i l m false t = let q = ltb-false i at t in let z : i ≡ at = omega arith in rw z e
-
-pub skipping_ends : {text : List ℕ} {from at : ℕ} → Skipping text from at → (at < length text → is_blank (get_or text at 0) ≡ false)
-    → Skipped text from at
-skipping_ends k e = record { forth = k.forth; within = k.within; past = k.past; blanks = k.blanks; stops = e }
-
 -- ---- a token
 
-module _ {text st ar roots deep words : List ℕ} {s : Standing} {b : Built} {at : ℕ}
-    (B : BeforeTurn text at st ar roots deep words s b) where
-  abbrev D : Stands B.reading.state st ar roots deep words s b
+module _ {text : List ℕ} {K : Stack} {Ns : Nodes} {s : Standing} {at : ℕ}
+    (B : BeforeTurn text at K Ns s) where
+  abbrev D : Stands B.reading.state K Ns s
   D = B.reading.stands
 
   pub at_next : AtNext text at s
   at_next = record { fits = top_fits D; no_blank = B.no_blank; small = B.small }
 
-  module _ {r : Next} (N : NextIs text at st s r) where
-    -- nothing leads on, at a byte
-    pub token_stuck : at < length text → r.stuck ≡ true → (read_text text ≡ none) × (taken_of text ≡ r.end)
-    unfolding read_text taken_of
-    token_stuck h e =
-        let R = B.reading in
-        let k = N.stuck h e in
-        let u = k.unread R.state D.shaped in
-        let p = k.place R.state D.shaped in
-        let q = R.same.place in
-        let d = length-drop at text in
-        let i = R.inside in
-        (R.same.reads ∙ u, omega arith)
+  -- nothing leads on, at a byte
+  pub token_stuck : {end : ℕ} → NoneNext text at K.tags s end → at < length text → Stuck text end
+  unfolding read_text taken_of
+  token_stuck N h =
+      let R = B.reading in
+      let k = N.stuck h in
+      let u = k.unread R.state D.shaped in
+      let p = k.place R.state D.shaped in
+      let q = R.same.place in
+      let d = length-drop at text in
+      let i = R.inside in
+      record { unread = R.same.reads ∙ u; place = omega arith }
 
-    module _ (h : at < length text) (e : r.stuck ≡ false) where
+  module _ {n : Next} (N : NextIs text at K.tags s n) where
+    module _ (h : at < length text) where
       abbrev token : Token
-      token = (N.token h e).0
+      token = (N.token h).0
 
-      located : Located st s (kind_of token) r.act r.top
-      located = (N.token h e).3
+      located : Located K.tags s (kind_of token) n.place.act n.place.top
+      located = (N.token h).3
 
-      leads_on : Leads B.reading.state token r.act (stack st r.top)
-      leads_on = leads B.reading.state token D located (N.token h e).4
+      leads_on : Leads B.reading.state token n.place.act (stack K.tags n.place.top)
+      leads_on = leads B.reading.state token D located (N.token h).4
 
-      pub token_moving : Moving st ar roots deep words b s.top r.top r.act
+      pub token_moving : Moving K Ns s.top n.place.top n.place.act
       token_moving = moving B.reading.state token D leads_on (top_fits D)
 
-      pub token_top : r.top ≤ 1543
+      pub token_top : n.place.top ≤ 1543
       token_top = let l = located.below in let f = top_few D in omega arith
 
-      pub token_reading : {st₂ ar₂ roots₂ deep₂ words₂ : List ℕ} {c : Built} {p : Place} {s₂ : Standing}
-          → Grown st ar roots deep words b s.top r.top r.act r.number roots₂ deep₂ words₂ c → p.act ≡ r.act → p.top ≡ r.top
-          → Entered st ar s.left p r.number st₂ ar₂ s₂
-          → Reading text r.end st₂ ar₂ roots₂ deep₂ words₂ s₂ c × (at < r.end)
-      token_reading G pa pt E =
-          let a = (N.token h e).2 in (
+      pub token_reading : {K₂ : Stack} {Ns₂ : Nodes} {s₂ : Standing}
+          → Grown K Ns s.top n.place.top n.place.act n.number Ns₂ → Entered K.tags K.figures s.left n.place n.number K₂.tags K₂.figures s₂
+          → Reading text n.end K₂ Ns₂ s₂ × (at < n.end)
+      token_reading G E =
+          let a = (N.token h).2 in (
             record {
               state = leads_on.state;
-              stands = turned B.reading.state token D located (N.token h e).1 leads_on G pa pt E;
+              stands = turned B.reading.state token D located (N.token h).1 leads_on G refl refl E;
               same = same_then B.reading.same (a.same B.reading.state leads_on.state D.shaped leads_on.step_is);
               inside = a.within;
             },
@@ -173,44 +150,52 @@ module _ {text st ar roots deep words : List ℕ} {s : Standing} {b : Built} {at
 
 -- ---- what is next
 
-module _ {text st : List ℕ} {at : ℕ} {s : Standing} {t : Found} (T : Taken text at st s t) where
-  pub next_token : {r : Next} → t.kind < 29 → at < length text → r.stuck ≡ false → r.end ≡ t.end → r.act ≡ t.act → r.top ≡ t.top
-      → r.number ≡ t.number → NextIs text at st s r
-  next_token k l e f a p n =
-      record {
-        token = λ h z.
-            let q = T.token k in
-            let m = q.1 in
-            (q.0, q.2 ∙ sym n, rw f q.3, rw (a, p, m) q.4, rw a q.5);
-        stuck = λ h z. never z e;
-        ends = λ h. absurd (omega arith);
-      }
+pub next_token : {text st : List ℕ} {at : ℕ} {s : Standing} {t : Found} → Taken text at st s t → at < length text
+    → NextIs text at st s (record { end = t.end; place = record { act = t.act; top = t.top }; number = t.number })
+next_token T h =
+    record {
+      token = λ z.
+          let q = T.token in
+          let m = q.1 in
+          (q.0, q.2, q.3, rw m q.4, q.5);
+      ends = λ l. absurd (omega arith);
+    }
 
-  pub next_stuck : {r : Next} → 29 ≤ t.kind → at < length text → r.stuck ≡ true → r.end ≡ t.end → NextIs text at st s r
-  next_stuck k l e f = record { token = λ h z. never e z; stuck = λ h z. rw f (T.stuck k); ends = λ h. absurd (omega arith) }
+pub next_stuck : {text st : List ℕ} {at end : ℕ} {s : Standing} → StuckAt text at (standing st s) end → at < length text
+    → NoneNext text at st s end
+next_stuck a h = record { stuck = λ z. a; ends = λ l. absurd (omega arith) }
 
-  pub next_found : {r : Next} → at < length text → r.stuck ≡ leb 29 t.kind → r.end ≡ t.end → r.act ≡ t.act → r.top ≡ t.top
-      → r.number ≡ t.number → NextIs text at st s r
-  next_found {r} l e f a p n = by (leb 29 t.kind) refl
-    where
-      by : (b : Bool) → leb 29 t.kind ≡ b → NextIs text at st s r
-      by true z = next_stuck (leb-true 29 t.kind z) l (e ∙ z) f
-      by false z = next_token (leb-false 29 t.kind z) l (e ∙ z) f a p n
+pub next_end : {text st : List ℕ} {at : ℕ} {s : Standing} {n : Next} → length text ≤ at → AtEnd st s at n → NextIs text at st s n
+next_end h E = record { token = λ l. absurd (omega arith); ends = λ l. E }
 
-pub next_end : {text st : List ℕ} {at : ℕ} {s : Standing} {r : Next} → length text ≤ at → AtEnd st s at r → NextIs text at st s r
-next_end h E = record { token = λ l z. absurd (omega arith); stuck = λ l z. absurd (omega arith); ends = λ l. E }
+pub none_end : {text st : List ℕ} {at : ℕ} {s : Standing} {end : ℕ} → length text ≤ at → LeftOpen st s at end → NoneNext text at st s end
+none_end h E = record { stuck = λ l. absurd (omega arith); ends = λ l. E }
+
+-- and what the end of the text answers is what is next there
+pub next_either : (text st : List ℕ) (at : ℕ) (s : Standing) → length text ≤ at → (r : Result Next ℕ)
+    → MatchResult r (AtEnd st s at) (LeftOpen st s at) → MatchResult r (NextIs text at st s) (NoneNext text at st s)
+next_either text st at s h (Ok n) E = next_end h E
+next_either text st at s h (Err e) E = none_end h E
 
 -- ---- stuck
 
-pub stuck_reached : {text words : List ℕ} {number place count k : ℕ} → (read_text text ≡ none) × (taken_of text ≡ k) → length words ≡ 4096
-    → number ≡ 17 → place ≡ k → count ≡ 0 → Reached text words number place count
+pub stuck_refused : {text : List ℕ} {place : ℕ} → Stuck text place → Refuses text (refusal 17 (told place))
 unfolding typed_refusal refusal_of
-stuck_reached p r n k c =
-    let e = p.0 in
-    let q = p.1 in
-    record {
-      refused = λ h room. rw (e, q, n, k);
-      read = λ z. absurd (let y = sym n ∙ z in omega arith);
-      few = omega arith;
-      room = r;
-    }
+stuck_refused S =
+    let e = S.unread in
+    let q = S.place in
+    record { is = λ room. rw (e, q) }
+
+-- what `map_err` makes of a turn, where it is an error
+pub stuck_told : (text : List ℕ) (P : ℕ → Type 0) (a : Result ℕ ℕ) (m : Result ℕ Refusal) {r : Refusal}
+    → MatchResult a (λ x. m ≡ Ok x) (λ e. IsErrAnd m (λ q. q ≡ refusal 17 (told e))) → m ≡ Err r → MatchResult a P (Stuck text) → Refuses text r
+stuck_told text P (Ok x) m k w h = let z : ◌≡◌ {A = Result ℕ Refusal} (Err _) (Ok x) = sym w ∙ k in absurd cc
+stuck_told text P (Err e) m {r} k w S =
+    let q : r ≡ refusal 17 (told e) = rw w at k in
+    rw q (stuck_refused S)
+
+-- and where it is not
+pub turn_told : (text : List ℕ) (P : ℕ → Type 0) (Q : ℕ → Refusal → Type 0) (a : Result ℕ ℕ) (m : Result ℕ Refusal) {t : ℕ}
+    → MatchResult a (λ x. m ≡ Ok x) (λ e. IsErrAnd m (Q e)) → m ≡ Ok t → MatchResult a P (Stuck text) → P t
+turn_told text P Q (Ok x) m {t} k w h = let z : x ≡ t = let y : ◌≡◌ {A = Result ℕ Refusal} (Ok x) (Ok t) = sym k ∙ w in cc in rw (← z) h
+turn_told text P Q (Err e) m {t} k w h = absurd (rw w at k)

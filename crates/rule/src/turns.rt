@@ -1,433 +1,223 @@
-// A token is taken: the frames that are complete are closed, nodes are made, and frames are opened.
-ghost use Rattle.std.specs.Prelude.{◌≡◌, true, false, ◌<◌, ◌≤◌};
-ghost use Rattle.tokens.specs.Arrays.{Acts, Spellings, Classes, Numbers};
-ghost use Rattle.rule.specs.inside.Turns.{Lowering, Lowered, Performing, Moved, AtEnd, AtNext, NextIs, BeforeTurn, Turned};
+// A token is taken: the frames that are complete are closed, nodes are made, and frames are opened. The text goes whole, with a place in it, since
+// places are told in the whole text. What holds before a turn is said of text, place, stack and nodes together, and so is no type's.
+ghost use Rattle.std.specs.Prelude.{◌≡◌, ◌<◌, ◌≤◌, MatchResult};
+ghost use Rattle.rule.specs.inside.Turns.{Performing, Moved, AtEnd, LeftOpen, AtNext, NextIs, NoneNext, BeforeTurn, Turned, Stuck};
 
-use crate::nodes;
-use crate::nodes::Built;
-use tokens::moves::{Place, Standing};
-use tokens::{moves, spelling};
-
-// Where the reading stands after a token, or stuck at `end`.
-#[derive(Clone, Copy)]
-pub(crate) struct Turn {
-    pub stuck: bool,
-    pub end: usize,
-    pub s: Standing,
-    pub b: Built,
-}
-
-// The frames above the place of a move are closed.
-fn close_above(
-    words: &mut [u32; 4096],
-    roots: &mut [u16; 1028],
-    deep: &mut [u16; 1028],
-    st: &[u8; 1600],
-    args: &[u32; 1600],
-    b: Built,
-    top: usize,
-    to: usize,
-) -> Built
-    requires { Lowering st.now args.now roots.old deep.old words.old b top to }
-    ensures { Lowered st.now args.now roots.old deep.old words.old
-        b top to roots.new deep.new words.new result }
-{
-    if top <= to {
-        return b;
-    }
-    nodes::close_down(&mut *words, &mut *roots, &mut *deep, st, args, b, top, to)
-}
-
-fn taken(end: usize, s: Standing, b: Built) -> Turn
-    ensures { (result.stuck ≡ false) × (result.end ≡ end) × (result.s ≡ s) × (result.b ≡ b) }
-{
-    Turn {
-        stuck: false,
-        end,
-        s,
-        b,
-    }
-}
-
-fn stuck(end: usize, s: Standing, b: Built) -> Turn
-    ensures { (result.stuck ≡ true) × (result.end ≡ end) }
-{
-    Turn {
-        stuck: true,
-        end,
-        s,
-        b,
-    }
-}
+use crate::nodes::{Form, Nodes};
+use tokens::moves::{Place, Stack, Standing};
+use tokens::{moves, tables};
 
 // ---- moves: an arm for each row of the table of moves in the specs of `tokens`, with its numbers. Those of a phrase that begins and those
-// after a phrase are apart, so that the code of either is short.
+// after a phrase are apart, so that the code of either is short. Moves, modes, frames and kinds have no names: they are the numbers of that
+// table, which a reader sets beside the arms. For the same reason arms that differ in one number stay apart: one arm for them would need one
+// more table, to look the number up.
 
 // Where a phrase begins: frames are opened, and a leaf may be made.
-fn begin(
-    words: &mut [u32; 4096],
-    roots: &mut [u16; 1028],
-    deep: &mut [u16; 1028],
-    st: &mut [u8; 1600],
-    args: &mut [u32; 1600],
-    b: Built,
-    left: u32,
-    p: Place,
-    x: u32,
-    end: usize,
-) -> Turn
-    requires { Performing st.old args.old roots.old deep.old words.old b left p × (p.act ≤ 19) }
-    ensures { Moved st.old args.old roots.old deep.old words.old b left p x end
-        st.new args.new roots.new deep.new words.new result }
+fn begin(nodes: &mut Nodes, stack: &mut Stack, left: u32, p: Place, x: u32) -> Standing
+    requires { Performing stack.old nodes.old left p × (p.act ≤ 19) }
+    ensures { Moved stack.old nodes.old left p x stack.new nodes.new result }
 {
     let top = p.top;
     let act = p.act;
     match act {
-        2 => taken(
-            end,
-            moves::stay(6, left, top),
-            nodes::make(words, roots, deep, b, 1, 32, x),
-        ),
-        3 => taken(end, moves::one(st, args, top, 28, x, 1, left), b),
-        4 => taken(
-            end,
-            moves::one(st, args, top, 20, 0, 2, moves::down(left)),
-            b,
-        ),
-        5 => taken(
-            end,
-            moves::one(st, args, top, 21, 0, 2, moves::down(left)),
-            b,
-        ),
-        6 => taken(end, moves::one(st, args, top, 27, 0, 4, left), b),
-        7 => taken(
-            end,
-            moves::stay(6, left, top),
-            nodes::make(words, roots, deep, b, 1, 16, x),
-        ),
-        8 => taken(
-            end,
-            moves::stay(6, left, top),
-            nodes::make(words, roots, deep, b, 1, 17, x),
-        ),
-        9 => taken(
-            end,
-            moves::two(st, args, top, 26, 0, 27, 6, left),
-            nodes::make(words, roots, deep, b, 1, 1, x),
-        ),
-        10 => taken(
-            end,
-            moves::two(st, args, top, 26, 0, 27, 6, left),
-            nodes::make(words, roots, deep, b, 1, 2, x),
-        ),
-        11 => taken(
-            end,
-            moves::one(st, args, top, 22, 0, 2, moves::down(left)),
-            b,
-        ),
+        2 => {
+            nodes.make(Form::Leaf, 32, x);
+            moves::stay(6, left, top)
+        },
+        3 => stack.one(top, 28, x, 1, left),
+        4 => stack.one(top, 20, 0, 2, moves::down(left)),
+        5 => stack.one(top, 21, 0, 2, moves::down(left)),
+        6 => stack.one(top, 27, 0, 4, left),
+        7 => {
+            nodes.make(Form::Leaf, 16, x);
+            moves::stay(6, left, top)
+        },
+        8 => {
+            nodes.make(Form::Leaf, 17, x);
+            moves::stay(6, left, top)
+        },
+        9 => {
+            nodes.make(Form::Leaf, 1, x);
+            stack.two(top, 26, 0, 27, 6, left)
+        },
+        10 => {
+            nodes.make(Form::Leaf, 2, x);
+            stack.two(top, 26, 0, 27, 6, left)
+        },
+        11 => stack.one(top, 22, 0, 2, moves::down(left)),
         12 => {
-            moves::two(&mut *st, &mut *args, top, 26, 0, 27, 4, left);
-            taken(
-                end,
-                moves::two(st, args, top + 2, 24, 0, 27, 4, moves::down(left)),
-                b,
-            )
+            stack.two(top, 26, 0, 27, 4, left);
+            stack.two(top + 2, 24, 0, 27, 4, moves::down(left))
         }
-        13 => taken(
-            end,
-            moves::two(st, args, top, 26, 0, 27, 5, moves::down(left)),
-            b,
-        ),
-        14 => taken(end, moves::one(st, args, top, 25, 0, 3, left), b),
-        15 => taken(
-            end,
-            moves::stay(6, left, top),
-            nodes::make(words, roots, deep, b, 1, 1, x),
-        ),
-        16 => taken(
-            end,
-            moves::stay(6, left, top),
-            nodes::make(words, roots, deep, b, 1, 2, x),
-        ),
-        17 => taken(
-            end,
-            moves::two(st, args, top, 24, 0, 27, 4, moves::down(left)),
-            b,
-        ),
-        18 => taken(end, moves::stay(5, moves::down(left), top), b),
-        19 => taken(end, moves::one(st, args, top, 23, 0, 2, left), b),
-        _ => taken(end, moves::stay(0, moves::down(left), top), b),
+        13 => stack.two(top, 26, 0, 27, 5, moves::down(left)),
+        14 => stack.one(top, 25, 0, 3, left),
+        15 => {
+            nodes.make(Form::Leaf, 1, x);
+            moves::stay(6, left, top)
+        },
+        16 => {
+            nodes.make(Form::Leaf, 2, x);
+            moves::stay(6, left, top)
+        },
+        17 => stack.two(top, 24, 0, 27, 4, moves::down(left)),
+        18 => moves::stay(5, moves::down(left), top),
+        19 => stack.one(top, 23, 0, 2, left),
+        _ => moves::stay(0, moves::down(left), top),
     }
 }
 
 // After a phrase, whose frames are closed: the innermost frame goes on, or it is complete too and makes its node.
-fn go_on(
-    words: &mut [u32; 4096],
-    roots: &mut [u16; 1028],
-    deep: &mut [u16; 1028],
-    st: &mut [u8; 1600],
-    args: &mut [u32; 1600],
-    b: Built,
-    left: u32,
-    p: Place,
-    x: u32,
-    end: usize,
-) -> Turn
-    requires { Performing st.old args.old roots.old deep.old words.old b left p × (1 < p.act → 20 ≤ p.act) }
-    ensures { Moved st.old args.old roots.old deep.old words.old b left p x end
-        st.new args.new roots.new deep.new words.new result }
+fn go_on(nodes: &mut Nodes, stack: &mut Stack, left: u32, p: Place, x: u32) -> Standing
+    requires { Performing stack.old nodes.old left p × (1 < p.act → 20 ≤ p.act) }
+    ensures { Moved stack.old nodes.old left p x stack.new nodes.new result }
 {
     let top = p.top;
     let act = p.act;
     match act {
-        20 => taken(end, moves::one(st, args, top, 15, 0, 2, left), b),
-        21 => taken(end, moves::one(st, args, top, 30, x, 4, left), b),
-        22 => taken(end, moves::one(st, args, top, 31, x, 4, left), b),
-        23 => taken(
-            end,
-            moves::two(st, args, moves::lower(top), 17, 0, 19, 0, left),
-            b,
-        ),
-        24 => taken(
-            end,
-            moves::stay(6, left + 1, moves::lower(top)),
-            nodes::make(words, roots, deep, b, 4, 35, x),
-        ),
-        25 => taken(
-            end,
-            moves::stay(6, left + 1, moves::lower(top)),
-            nodes::make(words, roots, deep, b, 3, 36, x),
-        ),
+        20 => stack.one(top, 15, 0, 2, left),
+        21 => stack.one(top, 30, x, 4, left),
+        22 => stack.one(top, 31, x, 4, left),
+        23 => stack.two(moves::lower(top), 17, 0, 19, 0, left),
+        24 => {
+            nodes.make(Form::Three, 35, x);
+            moves::stay(6, left + 1, moves::lower(top))
+        },
+        25 => {
+            nodes.make(Form::Two, 36, x);
+            moves::stay(6, left + 1, moves::lower(top))
+        },
         26 => {
-            moves::count_statement(args, top);
-            taken(end, moves::stay(0, left, top), b)
+            stack.count_statement(top);
+            moves::stay(0, left, top)
         }
-        27 => taken(
-            end,
-            moves::two(st, args, moves::lower(top), 13, 0, 19, 0, left),
-            b,
-        ),
-        28 => taken(
-            end,
-            moves::two(st, args, moves::lower(top), 14, 0, 19, 0, left),
-            b,
-        ),
-        29 => taken(end, moves::stay(6, left + 1, moves::lower(top)), b),
-        30 => taken(
-            end,
-            moves::two(st, args, moves::lower(top), 16, 0, 27, 4, left),
-            b,
-        ),
-        31 => taken(
-            end,
-            moves::two(st, args, moves::lower(top), 29, x, 27, 4, left),
-            b,
-        ),
-        32 => taken(
-            end,
-            moves::two(st, args, moves::lower(top), 18, 0, 27, 4, left),
-            b,
-        ),
-        33 => taken(
-            end,
-            moves::stay(6, left + 1, moves::lower(top)),
-            nodes::make(words, roots, deep, b, 4, 8, x),
-        ),
-        _ => taken(end, moves::stay(0, moves::down(left), top), b),
+        27 => stack.two(moves::lower(top), 13, 0, 19, 0, left),
+        28 => stack.two(moves::lower(top), 14, 0, 19, 0, left),
+        29 => moves::stay(6, left + 1, moves::lower(top)),
+        30 => stack.two(moves::lower(top), 16, 0, 27, 4, left),
+        31 => stack.two(moves::lower(top), 29, x, 27, 4, left),
+        32 => stack.two(moves::lower(top), 18, 0, 27, 4, left),
+        33 => {
+            nodes.make(Form::Three, 8, x);
+            moves::stay(6, left + 1, moves::lower(top))
+        },
+        _ => moves::stay(0, moves::down(left), top),
     }
 }
 
 // ---- a turn
 
-// What follows a phrase: a token's move, or the end, at which all frames are closed; or the text is stuck at `end`.
+// What follows a phrase: a token's move, or the end, at which all frames are closed.
 #[derive(Clone, Copy)]
 struct Next {
-    stuck: bool,
     end: usize,
-    act: u32,
-    top: usize,
+    place: Place,
     number: u32,
 }
 
-fn stuck_at(end: usize) -> Next
-    ensures { (result.stuck ≡ true) × (result.end ≡ end) }
-{
-    Next {
-        stuck: true,
-        end,
-        act: 0,
-        top: 0,
-        number: 0,
-    }
-}
-
-// At the end of the text nothing may be left open.
-fn next_at_end(at: usize, acts: &[u8; 1024], st: &[u8; 1600], s: Standing) -> Next
-    requires { Acts acts.now × (s.top ≤ 1600) × (at < 18446744073709551615) }
-    ensures { AtEnd st.now s at result }
+// At the end of the text nothing may be left open: otherwise the text is stuck there.
+fn next_at_end(at: usize, stack: &Stack, s: Standing) -> Result<Next, usize>
+    requires { (s.top ≤ 1600) × (at < 18446744073709551615) }
+    ensures { MatchResult result (AtEnd stack.now.tags s at) (LeftOpen stack.now.tags s at) }
 {
     if s.mode != 6 {
-        return stuck_at(at);
+        return Err(at);
     }
-    let p = moves::locate(acts, st, s, 29);
+    let p = stack.locate(s, 29);
     let open = p.top != 0;
     if open {
-        return stuck_at(at);
+        return Err(at);
     }
-    Next {
-        stuck: false,
+    Ok(Next {
         end: at + 1,
-        act: 0,
-        top: 0,
+        place: Place { act: 0, top: 0 },
         number: 0,
-    }
+    })
 }
 
-fn next_in(
-    text: &[u8],
-    at: usize,
-    acts: &[u8; 1024],
-    spellings: &[u8; 216],
-    classes: &[u8; 256],
-    numbers: &[u8; 27],
-    st: &[u8; 1600],
-    s: Standing,
-) -> Next
-    requires { Acts acts.now × Spellings spellings.now × Classes classes.now × Numbers numbers.now × AtNext text.now at s }
-    ensures { NextIs text.now at st.now s result }
+// An error is the place where the text is stuck, here and below.
+fn next_in(text: &[u8], at: usize, stack: &Stack, s: Standing) -> Result<Next, usize>
+    requires { AtNext text.now at s }
+    ensures { MatchResult result (NextIs text.now at stack.now.tags s) (NoneNext text.now at stack.now.tags s) }
 {
     if text.len() <= at {
-        return next_at_end(at, acts, st, s);
+        return next_at_end(at, stack, s);
     }
-    let class = spelling::class_of(classes, text[at]);
-    let t = tokens::token_following(text, at, class, acts, spellings, classes, numbers, st, s);
-    Next {
-        stuck: 29 <= t.kind,
+    let class = tables::class_of(text[at]);
+    let t = tokens::token_following(text, at, class, stack, s)?;
+    Ok(Next {
         end: t.end,
-        act: t.act,
-        top: t.top,
+        place: Place {
+            act: t.act,
+            top: t.top,
+        },
         number: t.number,
-    }
+    })
 }
 
 // A phrase is at hand.
 fn after_phrase(
     text: &[u8],
     at: usize,
-    acts: &[u8; 1024],
-    spellings: &[u8; 216],
-    classes: &[u8; 256],
-    numbers: &[u8; 27],
-    st: &mut [u8; 1600],
-    args: &mut [u32; 1600],
-    words: &mut [u32; 4096],
-    roots: &mut [u16; 1028],
-    deep: &mut [u16; 1028],
-    s: Standing,
-    b: Built,
-) -> Turn
-    requires { Acts acts.now × Spellings spellings.now × Classes classes.now × Numbers numbers.now
-        × BeforeTurn text.now at st.old args.old roots.old deep.old words.old s b × (s.mode ≡ 6) }
-    ensures { Turned text.now at st.new args.new
-        roots.new deep.new words.new result }
+    stack: &mut Stack,
+    nodes: &mut Nodes,
+    s: &mut Standing,
+) -> Result<usize, usize>
+    requires { BeforeTurn text.now at stack.old nodes.old s.old × (s.old.mode ≡ 6) }
+    ensures { MatchResult result (Turned text.now at stack.new nodes.new s.new) (Stuck text.now) }
 {
-    let n = next_in(text, at, acts, spellings, classes, numbers, &*st, s);
-    let end = n.end;
-    if n.stuck {
-        return stuck(end, s, b);
-    }
-    let c = close_above(
-        &mut *words,
-        &mut *roots,
-        &mut *deep,
-        &*st,
-        &*args,
-        b,
-        s.top,
-        n.top,
-    );
-    let p = Place {
-        act: n.act,
-        top: n.top,
-    };
-    go_on(words, roots, deep, st, args, c, s.left, p, n.number, end)
+    let n = next_in(text, at, &*stack, *s)?;
+    nodes.close_down(&*stack, s.top, n.place.top);
+    *s = go_on(nodes, stack, s.left, n.place, n.number);
+    Ok(n.end)
 }
 
 // A phrase is wanted. A number or a variable where only an operand may stand is taken at once.
 fn before_phrase(
     text: &[u8],
     at: usize,
-    acts: &[u8; 1024],
-    spellings: &[u8; 216],
-    classes: &[u8; 256],
-    numbers: &[u8; 27],
-    st: &mut [u8; 1600],
-    args: &mut [u32; 1600],
-    words: &mut [u32; 4096],
-    roots: &mut [u16; 1028],
-    deep: &mut [u16; 1028],
-    s: Standing,
-    b: Built,
-) -> Turn
-    requires { Acts acts.now × Spellings spellings.now × Classes classes.now × Numbers numbers.now
-        × BeforeTurn text.now at st.old args.old roots.old deep.old words.old s b × (s.mode ≡ 6 → ⊥) }
-    ensures { Turned text.now at st.new args.new
-        roots.new deep.new words.new result }
+    stack: &mut Stack,
+    nodes: &mut Nodes,
+    s: &mut Standing,
+) -> Result<usize, usize>
+    requires { BeforeTurn text.now at stack.old nodes.old s.old × (s.old.mode ≡ 6 → ⊥) }
+    ensures { MatchResult result (Turned text.now at stack.new nodes.new s.new) (Stuck text.now) }
 {
     if text.len() <= at {
-        return stuck(at, s, b);
+        return Err(at);
     }
-    let class = spelling::class_of(classes, text[at]);
+    let class = tables::class_of(text[at]);
     if s.mode == 4 {
-        let o = tokens::operand(text, at, class);
-        let end = o.end;
-        if o.kind < 29 {
-            if !spelling::word_goes_on(text, end, classes) {
-                let leaf = nodes::make(words, roots, deep, b, 1, o.kind - 26, o.value);
-                return taken(end, moves::stay(6, s.left, s.top), leaf);
+        if let Some(o) = tokens::operand(text, at, class) {
+            if !tables::word_goes_on(text, o.end) {
+                nodes.make(Form::Leaf, o.kind - 26, o.value);
+                *s = moves::stay(6, s.left, s.top);
+                return Ok(o.end);
             }
         }
     }
-    let t = tokens::token_wanted(text, at, class, acts, spellings, classes, numbers, &*st, s);
-    let end = t.end;
-    if 29 <= t.kind {
-        return stuck(end, s, b);
-    }
+    let t = tokens::token_wanted(text, at, class, &*stack, *s)?;
     let p = Place {
         act: t.act,
         top: t.top,
     };
-    begin(words, roots, deep, st, args, b, s.left, p, t.number, end)
+    *s = begin(nodes, stack, s.left, p, t.number);
+    Ok(t.end)
 }
 
-// What stands at `at`, where no blank does, is taken.
+// What stands at `at`, where no blank does, is taken. Answers where it ends.
 pub(crate) fn advance(
     text: &[u8],
     at: usize,
-    acts: &[u8; 1024],
-    spellings: &[u8; 216],
-    classes: &[u8; 256],
-    numbers: &[u8; 27],
-    st: &mut [u8; 1600],
-    args: &mut [u32; 1600],
-    words: &mut [u32; 4096],
-    roots: &mut [u16; 1028],
-    deep: &mut [u16; 1028],
-    s: Standing,
-    b: Built,
-) -> Turn
-    requires { Acts acts.now × Spellings spellings.now × Classes classes.now × Numbers numbers.now
-        × BeforeTurn text.now at st.old args.old roots.old deep.old words.old s b }
-    ensures { Turned text.now at st.new args.new
-        roots.new deep.new words.new result }
+    stack: &mut Stack,
+    nodes: &mut Nodes,
+    s: &mut Standing,
+) -> Result<usize, usize>
+    requires { BeforeTurn text.now at stack.old nodes.old s.old }
+    ensures { MatchResult result (Turned text.now at stack.new nodes.new s.new) (Stuck text.now) }
 {
     if s.mode == 6 {
-        after_phrase(
-            text, at, acts, spellings, classes, numbers, st, args, words, roots, deep, s, b,
-        )
+        after_phrase(text, at, stack, nodes, s)
     } else {
-        before_phrase(
-            text, at, acts, spellings, classes, numbers, st, args, words, roots, deep, s, b,
-        )
+        before_phrase(text, at, stack, nodes, s)
     }
 }

@@ -1,7 +1,8 @@
 // The source run: the statements of an accepted table, on a store, within fuel.
+// What is left of the fuel goes into a word by `as`: `try_from` would ask for what is proved.
 #![tactic(auto)]
 
-ghost use Rattle.std.specs.Prelude.{◌≡◌, ◌-◌, ◌<◌};
+ghost use Rattle.std.specs.Prelude.{◌≡◌, ◌<◌};
 ghost use Rattle.rules.specs.Table.{Kind, statement};
 ghost use Rattle.rules.specs.Answer.{ended};
 ghost use Rattle.evaluate.specs.Ready.{Ready};
@@ -9,17 +10,13 @@ ghost use Rattle.source.specs.inside.Ran.{Ran, Of};
 ghost use Rattle.source.specs.SourceRun.{source_run};
 
 use evaluate::{boolean, value_of};
+use lent::kinds::{ASSIGN, IF, SEQUENCE, SKIP};
 use lent::{place, put_back, taken, word};
-use rules::{Checked, Refusal, SourceRun};
+use rules::{End, Reason, Refusal};
 
 // Credit is one more than the fuel that is left. None is left where the fuel was spent before the end.
-
-// One unit, where there is one.
-fn pay(credit: u64) -> u64
-    ensures { result ≡ credit - 1 }
-{
-    if credit == 0 { 0 } else { credit - 1 }
-}
+// Both pass in one register so: an `Option` of the fuel, with `?`, measures 5 to 19 % more instructions (as plain Rust), and an `Option` of a
+// `NonZeroU64` has two words here too.
 
 // The assign of node n.
 fn assign(t: &&[u32], s: &mut [i32; 32], n: usize, credit: u64) -> u64
@@ -42,16 +39,16 @@ fn exec(t: &&[u32], s: &mut [i32; 32], n: usize, credit: u64) -> u64
 {
     let k = word(t, n, 0);
     match k {
-        32 => credit,
-        33 => assign(t, s, n, credit),
-        34 => {
+        SKIP => credit,
+        ASSIGN => assign(t, s, n, credit),
+        SEQUENCE => {
             let left = exec(t, s, place(t, n, 1), credit);
             if left == 0 {
                 return 0;
             }
             exec(t, s, place(t, n, 2), left)
         }
-        35 => branch(t, s, n, credit),
+        IF => branch(t, s, n, credit),
         _ => repeat(t, s, n, credit),
     }
 }
@@ -66,7 +63,7 @@ fn branch(t: &&[u32], s: &mut [i32; 32], n: usize, credit: u64) -> u64
         return 0;
     }
     if boolean(t, s, place(t, n, 1)) {
-        pay(exec(t, s, place(t, n, 2), credit - 1))
+        exec(t, s, place(t, n, 2), credit - 1).saturating_sub(1)
     } else {
         exec(t, s, place(t, n, 3), credit - 1)
     }
@@ -95,26 +92,20 @@ fn repeat(t: &&[u32], s: &mut [i32; 32], n: usize, credit: u64) -> u64
 }
 
 // Runs the statement of the table's root on the store, within fuel.
-pub fn run_source(table: &[u32], store: &mut [i32], fuel: u32) -> SourceRun
+pub fn run_source(table: &[u32], store: &mut [i32], fuel: u32) -> Result<End<u32>, Refusal>
     ensures { ended result store.new ≡ source_run table.now store.old fuel }
 {
-    let checked = table::check(table);
-    if let Checked::Refused(refusal) = checked {
-        return SourceRun::Refused(refusal);
-    }
+    table::check(table)?;
     if store.len() != 32 {
-        return SourceRun::Refused(Refusal {
-            number: 10,
-            place: 0,
-        });
+        return Err(Reason::StoreLength.at(0));
     }
     let root = table.len() / 4 - 1;
     let words = table;
     let mut values = taken(store);
-    let left = exec(&words, &mut values, root, (fuel as u64) + 1);
+    let left = exec(&words, &mut values, root, u64::from(fuel) + 1);
     put_back(store, &values);
     if left == 0 {
-        return SourceRun::OutOfFuel(fuel);
+        return Ok(End::OutOfFuel(fuel));
     }
-    SourceRun::Finished(fuel - ((left - 1) as u32))
+    Ok(End::Finished(fuel - ((left - 1) as u32)))
 }

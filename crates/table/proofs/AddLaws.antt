@@ -23,6 +23,10 @@ pub adds_append : (m : Nodes) (xs ys : List ℕ) → adds m (xs ++ ys) ≡ adds 
 unfolding adds
 adds_append m xs ys = foldl-append add m xs ys
 
+-- three runs of nodes, one after the other
+pub adds_three : (m m₁ m₂ m₃ : Nodes) (xs ys zs : List ℕ) → m₁ ≡ adds m xs → m₂ ≡ adds m₁ ys → m₃ ≡ adds m₂ zs → m₃ ≡ adds m (xs ++ ys ++ zs)
+adds_three m m₁ m₂ m₃ xs ys zs e f g = rw (g, f, e, adds_append m (xs ++ ys) zs, adds_append m xs ys)
+
 pub adds_room : (ks : List ℕ) (m : Nodes) → length (adds m ks).0 ≡ length m.0
 unfolding adds add
 adds_room [] m = refl

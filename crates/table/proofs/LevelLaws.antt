@@ -6,9 +6,9 @@ use mathlib.Core.List.{List}
 use Prim.Native.Nat.{ℕ, zero, suc, ◌+◌, ◌*◌, ◌-◌, ◌/◌, ◌<◌, ◌≤◌, min, max}
 use native.Mathlib.Omega.{arith}
 use lib.Bits.{bit_and}
-use lib.Dec.{eqb}
+use lib.Dec.{eqb, leb}
 use lib.ListN.{length, get_or, set, length-set, replicate, length-replicate}
-use borrow.Author.Tests.{eqb-true, eqb-false, eq-eqb}
+use borrow.Author.Tests.{eqb-true, eqb-false, eq-eqb, le-leb, lt-leb}
 use Rattle.bits.specs.Bit.{bit, with_bit}
 use Rattle.bits.proofs.BitLaws.{bit_most, bit_with, no_bit, Lowest}
 use Rattle.rules.specs.Table.{nodes, root, occurs, depth_at}
@@ -39,16 +39,6 @@ pub record Passing (t : List ℕ) (h : ℕ) (row : List ℕ) (left next : ℕ) :
   pub full : (next ≡ 0 → ⊥) → (k : ℕ) × Held row left 0 k
 
 module _ {t row : List ℕ} {h : ℕ} where
-  pub none_passed : {words : ℕ} → Level t (row, words) h → Passing t h row words 0
-  none_passed l = record {
-    room = l.room;
-    inside = l.inside;
-    old = λ k p. l.most k p.0;
-    new = λ k p. absurd (omega (arith, l.told k p.0, p.1));
-    some = λ g. let w = l.some (omega arith) in inl (w.0, (w.1, l.told w.0 w.1), w.2);
-    full = λ ne. absurd (ne refl);
-  }
-
   pub word_inside : {left next : ℕ} → Passing t h row left next → (i : ℕ) → Inside t i (get_or row i 0)
   word_inside p i j l e = p.inside (32 * i + j) (held_at row i j l ∙ e)
 
@@ -237,3 +227,11 @@ pub level_some : {t row : List ℕ} {words h : ℕ} → Sound t → Level t (row
 level_some {t} sound l ne =
     let w = l.full ne in
     omega (arith, l.most w.0 w.1, depth_some t sound w.0 (l.inside w.0 w.1))
+
+-- whether a node is left when 256 levels are passed tells whether the depth is over 256
+pub shallow_told : {t row : List ℕ} {words : ℕ} (depth : ℕ) → Sound t → Level t (row, words) (depth - 256) → eqb words 0 ≡ leb depth 256
+shallow_told {t} {row} {words} depth sound l = by (eqb words 0) refl
+  where
+    by : (b : Bool) → eqb words 0 ≡ b → eqb words 0 ≡ leb depth 256
+    by true e = e ∙ sym (le-leb depth 256 (omega (arith, level_none l (eqb-true words 0 e))))
+    by false e = e ∙ sym (lt-leb depth 256 (omega (arith, level_some sound l (eqb-false words 0 e))))

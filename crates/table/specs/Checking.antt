@@ -1,14 +1,14 @@
 -- What the table check answers (01, "The table check gives 1 to 9"), for every list of words.
-use Rattle.std.specs.Prelude.{ℕ, List}
+use Rattle.std.specs.Prelude.{ℕ, List, Ok, Err}
 use Rattle.std.proofs.Math.Option.{Option, none, some}
 use Rattle.rules.specs.Table.{table_refusal}
 use Rattle.rules.specs.declared.Refusal.{Refusal}
-use Rattle.rules.specs.declared.Checked.{Checked}
+use Rattle.rules.specs.Answer.{Answer}
 
 -- a refusal, or done where there is none
-unfoldable pub answer : Option Refusal → Checked
-answer (some r) = Checked.Refused r
-answer none = Checked.Done
+unfoldable pub answer : Option Refusal → Answer (Unit {0})
+answer (some r) = Err r
+answer none = (Ok tt)
 
-unfoldable pub checking : List ℕ → Checked
+unfoldable pub checking : List ℕ → Answer (Unit {0})
 checking t = answer (table_refusal t)

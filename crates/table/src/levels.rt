@@ -1,92 +1,121 @@
 // The depth of the tree, level by level from the root: a level is a set of nodes, with a word that tells which of the set's words are
 // not empty. Children lie below their parent, so the next level goes into the words that are passed, and no second set is needed. Each
-// node is looked at once.
-ghost use Rattle.std.specs.Prelude.{◌≡◌, ℕ, ◌-◌, ◌<◌, ◌≤◌, leb};
-ghost use Rattle.rules.specs.Table.{nodes, root, children, depth_at};
-ghost use Rattle.table.specs.inside.Sets.{adds, under, Inside, Level};
-ghost use Rattle.table.specs.inside.Steps.{Rows, Within, Sound, AddedBy};
+// node is looked at once. The loops over the bits of a word count no index: each takes the lowest bit that is left.
+// A word becomes a place by `as`, and a place a word: there is no `From` between `u32` and `usize`.
+ghost use Rattle.std.specs.Prelude.{◌≡◌, ℕ, List, ◌-◌, ◌<◌, ◌≤◌, leb, replicate};
+ghost use Rattle.rules.specs.Table.{nodes, root, Class, child, child_in, children, depth_at};
+ghost use Rattle.table.specs.inside.Rows.{slot_in};
+ghost use Rattle.table.specs.inside.Sets.{add, adds, under, Inside, Level};
+ghost use Rattle.table.specs.inside.Steps.{Sound};
 
-use crate::{rows, sets};
+use crate::rows::{self, Row, Slot};
+use crate::sets::Set;
+use std::marker::Model;
 
-// Puts the child that the word w names in this slot, if it names one, into the level. The answer is the words in use.
-fn add_child(level: &mut [u32; 32], words: u32, slot: u32, w: u32) -> u32
-    requires { slot < 4 → w < 1024 }
-    ensures { AddedBy slot w (level.old, words) (level.new, result) }
-{
-    if slot < 4 {
-        sets::put(level, w as usize);
-        bits::with(words, w / 32)
-    } else {
-        words
-    }
+// Nodes of a table: a set, and a word that tells which of its words are not empty.
+#[derive(Drop)]
+struct Nodes {
+    set: Set,
+    used: u32,
 }
 
-fn add_children(t: &[u32], rows: &[u32; 37], n: usize, level: &mut [u32; 32], words: u32) -> u32
-    requires { Sound t.now × Rows rows.now × Within t.now n }
-    ensures { (level.new, result) ≡ adds (level.old, words) (children t.now n) }
-{
-    let at = 4 * n;
-    let row = rows::known_row_at(t, rows, n);
-    let p = add_child(level, words, row / 256 % 16, t[at + 1]);
-    let q = add_child(level, p, row / 16 % 16, t[at + 2]);
-    add_child(level, q, row % 16, t[at + 3])
+// Clauses see the words of the set, and the word that tells which of them are in use.
+impl Model for Nodes {
+    ghost Value = { List ℕ × ℕ };
+
+    ghost view = { λ m. (m.set, m.used) };
 }
 
-// Puts the children of some nodes into the level: of those that are the bits of `taken` in a set's word i.
-fn add_all(
-    t: &[u32],
-    rows: &[u32; 37],
-    i: usize,
-    taken: u32,
-    level: &mut [u32; 32],
-    words: u32,
-) -> u32
-    requires { Sound t.now × Rows rows.now × (nodes t.now ≤ 1024) × (i < 32) × Inside t.now i taken }
-    ensures { (level.new, result) ≡ adds (level.old, words) (under t.now i taken) }
-{
-    let mut left = taken;
-    let mut used = words;
-    while left != 0 {
-        let j = u32::trailing_zeros(left) as usize;
-        left = left & (left - 1);
-        used = add_children(t, rows, 32 * i + j, level, used);
-    }
-    used
-}
-
-// Puts the next level in the place of this one, whose words in use are given. The answer is those of the next.
-fn pass_level(t: &[u32], rows: &[u32; 37], level: &mut [u32; 32], words: u32) -> u32
-    requires { Sound t.now × Rows rows.now × (nodes t.now ≤ 1024) × ((h : ℕ) × Level t.now (level.old, words) h) }
-    ensures { (h : ℕ) → Level t.now (level.old, words) h → Level t.now (level.new, result) (h - 1) }
-{
-    let mut left = words;
-    let mut next = 0;
-    while left != 0 {
-        let i = u32::trailing_zeros(left) as usize;
-        left = left & (left - 1);
-        let taken = level[i];
-        level[i] = 0;
-        next = add_all(t, rows, i, taken, level, next);
-    }
-    next
-}
-
-// Whether the root is at most 256 deep: no node is left when 256 levels are passed.
-pub(crate) fn shallow(t: &[u32], rows: &[u32; 37]) -> bool
-    requires { Sound t.now × Rows rows.now × Within t.now (root t.now) }
-    ensures { result ≡ leb (depth_at t.now (root t.now)) 256 }
-{
-    let root = t.len() / 4 - 1;
-    let mut level = [0u32; 32];
-    sets::put(&mut level, root);
-    let mut words = bits::with(0, (root / 32) as u32);
-    let mut passed = 0u32;
-    while passed < 256 {
-        if words == 0 {
-            return true;
+impl Nodes {
+    fn new() -> Self
+        ensures { result ≡ (replicate 32 0, 0) }
+    {
+        Nodes {
+            set: Set::new(),
+            used: 0,
         }
-        words = pass_level(t, rows, &mut level, words);
-        passed += 1;
     }
-    words == 0
+
+    fn add(&mut self, k: usize)
+        requires { k < 1024 }
+        ensures { self.new ≡ add self.old k }
+    {
+        self.set.put(k);
+        self.used = bits::with(self.used, (k / 32) as u32);
+    }
+
+    // Adds the child that the word w names in this slot, if it names one.
+    fn add_child(&mut self, slot: Slot, w: u32)
+        requires { (c : Class) → slot_in slot ≡ child c → w < 1024 }
+        ensures { self.new ≡ adds self.old (child_in (slot_in slot) w) }
+    {
+        if slot.is_child() {
+            self.add(w as usize);
+        }
+    }
+}
+
+// A table of at most 1,024 nodes, none of which has a fault.
+#[derive(Clone, Copy)]
+pub(crate) struct Tree<'a> {
+    pub table: &'a [u32],
+    ghost few: { nodes table.now ≤ 1024 },
+    ghost sound: { Sound table.now },
+}
+
+impl<'a> Tree<'a> {
+    fn add_children(&self, n: usize, level: &mut Nodes)
+        requires { n < nodes self.now.table.now }
+        ensures { level.new ≡ adds level.old (children self.now.table.now n) }
+    {
+        let Row(_, p, q, r) = rows::known_row_at(self.table, n);
+        let at = 4 * n;
+        level.add_child(p, self.table[at + 1]);
+        level.add_child(q, self.table[at + 2]);
+        level.add_child(r, self.table[at + 3]);
+    }
+
+    // Adds the children of some nodes to the level: of those that are the bits of `taken` in a set's word i.
+    fn add_all(&self, i: usize, taken: u32, level: &mut Nodes)
+        requires { (i < 32) × Inside self.now.table.now i taken }
+        ensures { level.new ≡ adds level.old (under self.now.table.now i taken) }
+    {
+        let mut left = taken;
+        while left != 0 {
+            let j = left.trailing_zeros() as usize;
+            left &= left - 1;
+            self.add_children(32 * i + j, level);
+        }
+    }
+
+    // Puts the next level in the place of this one.
+    fn pass(&self, level: &mut Nodes)
+        requires { (h : ℕ) × Level self.now.table.now level.old h }
+        ensures { (h : ℕ) → Level self.now.table.now level.old h → Level self.now.table.now level.new (h - 1) }
+    {
+        let mut left = level.used;
+        level.used = 0;
+        while left != 0 {
+            let i = left.trailing_zeros() as usize;
+            left &= left - 1;
+            let taken = level.set.take_word(i);
+            self.add_all(i, taken, level);
+        }
+    }
+
+    // Whether the root is at most 256 deep: no node is left when 256 levels are passed.
+    pub(crate) fn is_shallow(&self) -> bool
+        requires { 0 < nodes self.now.table.now }
+        ensures { result ≡ leb (depth_at self.now.table.now (root self.now.table.now)) 256 }
+    {
+        let mut level = Nodes::new();
+        level.add(self.table.len() / 4 - 1);
+        for _ in 0..256u32 {
+            if level.used == 0 {
+                return true;
+            }
+            self.pass(&mut level);
+        }
+        level.used == 0
+    }
 }

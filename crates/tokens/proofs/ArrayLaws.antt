@@ -74,10 +74,6 @@ pub lower_none : {top : ℕ} → Lower top 0 top
 unfolding closed
 lower_none = record { is = λ l. refl; below = omega arith }
 
-pub lower_empty : {top n : ℕ} → top ≡ 0 → Lower top n 0
-unfolding stack
-lower_empty {n = n} z = rw z (record { is = λ l. nil_closed n; below = omega arith })
-
 pub lower_one : {top : ℕ} → Lower top 1 (top - 1)
 lower_one {top} = record { is = λ l. stack_closed l top 1 (lit< tt); below = omega arith }
 

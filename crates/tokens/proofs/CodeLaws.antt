@@ -4,9 +4,10 @@ use mathlib.Core.Bool.{Bool, true, false, not, ◌&&◌}
 use mathlib.Core.List.{List}
 use Prim.Native.Nat.{ℕ, zero, suc, ◌+◌, ◌-◌, ◌*◌, ◌<◌, ◌≤◌}
 use native.Mathlib.Omega.{arith}
-use lib.Dec.{eqb, ltb, leb, lit<}
+use lib.Dec.{eqb, ltb, leb}
 use lib.ListN.{length, get_or, drop, length-drop}
 use lib.Seq.{get_or-drop}
+use Rattle.std.specs.Prelude.{Some, None, unwrap_or, IfSome}
 use Rattle.rules.proofs.ListLaws.{and_true}
 use Rattle.grammar.specs.Token.{Token, number, variable, mark, skip}
 use Rattle.grammar.specs.Spelling.{is_digit, in_word}
@@ -114,10 +115,10 @@ match_not text at k j c h m b q =
 -- all fixed tokens are considered
 
 pub look_ended : (text : List ℕ) (at : ℕ) (st : List ℕ) (s : Standing) (k : ℕ) (f : Furthest)
-    → Best (standing st s) (drop at text) k f.best f.found
+    → Best (standing st s) (drop at text) k f.best (unwrap_or f.found 27) → IfSome f.found (λ i. i < 27)
     → k ≡ 27 → at ≤ length text → Furthermost text at st s f
-look_ended text at st s k f b e h =
-    record { best = rw e at b; inside = by f.best refl }
+look_ended text at st s k f b w e h =
+    record { best = rw e at b; few = w; inside = by f.best refl }
   where
     by : (m : ℕ) → f.best ≡ m → at + f.best ≤ length text
     by zero q = omega arith
@@ -131,16 +132,8 @@ look_ended text at st s k f b e h =
 -- ---- what is scanned
 
 pub scanned_token : (text : List ℕ) (at : ℕ) (sh : Shape) (t : Token) (kind value end : ℕ) → kind_of t ≡ kind → carried t ≡ value
-    → kind < 29
     → TokenAt text at sh t end → Scanned text at sh kind value end
-scanned_token text at sh t kind value end k v l a = record { token = λ h. (t, k, v, a); stuck = λ h. absurd (omega arith) }
-
-pub scanned_stuck : {text : List ℕ} {at : ℕ} {sh : Shape} {kind value end place : ℕ} → (kind ≡ 29) × (value ≡ 0) × (end ≡ place)
-    → StuckAt text at sh place → Scanned text at sh kind value end
-scanned_stuck {text} {at} {sh} {kind} {end = end} e a =
-    let k = e.0 in
-    let f = e.2 in
-    record { token = λ h. absurd (omega arith); stuck = λ h. rw f a }
+scanned_token text at sh t kind value end k v a = record { token = (t, k, v, a) }
 
 module _ (text : List ℕ) (at : ℕ) (sh : Shape) where
   pub no_number : {r : Bool} → DigitAt text at → r ≡ may sh 27 → r ≡ false → StuckAt text at sh at
@@ -156,17 +149,14 @@ module _ (text : List ℕ) (at : ℕ) (sh : Shape) where
       → Scanned text at sh 27 n end
   unfolding kind_of carried
   scanned_number {end = end} {n = n} e h d w q =
-      scanned_token text at sh (number n) 27 n end refl refl (lit< tt) (number_at text at sh d (sym e ∙ h) (w.stops q))
+      scanned_token text at sh (number n) 27 n end refl refl (number_at text at sh d (sym e ∙ h) (w.stops q))
 
   pub no_variable : {r : Bool} → VAt text at → r ≡ may sh 28 → r ≡ false → StuckAt text at sh at
   no_variable p e h = variable_refused text at sh p.inside p.byte (sym e ∙ h)
 
-  pub v_ends : {r : Bool} → VAt text at → r ≡ may sh 28 → r ≡ true → length text ≤ at + 1 → StuckAt text at sh (at + 1)
-  v_ends p e h w = variable_bare text at sh p.inside p.byte (sym e ∙ h) (λ z. absurd (omega arith))
-
-  pub v_alone : {r b : Bool} → VAt text at → r ≡ may sh 28 → r ≡ true → b ≡ is_digit (get_or text (at + 1) 0) → b ≡ false
-      → StuckAt text at sh (at + 1)
-  v_alone p e h w f = variable_bare text at sh p.inside p.byte (sym e ∙ h) (λ z. sym w ∙ f)
+  pub v_alone : {r : Bool} → VAt text at → r ≡ may sh 28 → r ≡ true
+      → (at + 1 < length text → is_digit (get_or text (at + 1) 0) ≡ false) → StuckAt text at sh (at + 1)
+  v_alone p e h f = variable_bare text at sh p.inside p.byte (sym e ∙ h) f
 
   pub variable_goes_on : {r w : Bool} {end n : ℕ} → VAt text at → r ≡ may sh 28 → r ≡ true
       → DigitsRead 31 text (at + 1) end n → WordNext text end w → w ≡ true → StuckAt text at sh end
@@ -176,7 +166,7 @@ module _ (text : List ℕ) (at : ℕ) (sh : Shape) where
       → DigitsRead 31 text (at + 1) end n → WordNext text end w → w ≡ false → Scanned text at sh 28 n end
   unfolding kind_of carried
   scanned_variable {end = end} {n = n} p e h d w q =
-      scanned_token text at sh (variable n) 28 n end refl refl (lit< tt)
+      scanned_token text at sh (variable n) 28 n end refl refl
       (variable_at text at sh p.inside p.byte d (sym e ∙ h) (w.stops q))
 
 second_false : (a b : Bool) → a ≡ true → (a && b) ≡ false → b ≡ false
@@ -184,24 +174,31 @@ second_false a b e h = rw e at h
 
 module _ (text : List ℕ) (at : ℕ) (st : List ℕ) (s : Standing) (f : Furthest)
     (p : AtFixed text at s) (b : Furthermost text at st s f) where
-  pub none_there : 27 ≤ f.found → StuckAt text at (standing st s) (at + f.best)
+  pub none_there : f.found ≡ None → StuckAt text at (standing st s) (at + f.best)
   none_there h =
-      fixed_broken text at (standing st s) f.best f.found p.inside b.best p.no_digit p.no_v h p.no_blank
+      fixed_broken text at (standing st s) f.best 27 p.inside (rw h at b.best) p.no_digit p.no_v (omega arith) p.no_blank
       b.inside
 
-  pub word_longer : {r w : Bool} → f.found < 27 → r ≡ is_word_kind f.found → WordNext text (at + f.best) w → (r && w) ≡ true
-      → StuckAt text at (standing st s) (at + f.best)
-  word_longer {r} {w} h e n k =
-      let a = and_true r w k in
-      let g = n.goes a.1 in
-      fixed_word text at (standing st s) f.best f.found p.inside b.best p.no_digit p.no_v h (sym e ∙ a.0)
-      g.0 g.1
+  module _ {k : ℕ} (e : f.found ≡ Some k) where
+    best_found : Best (standing st s) (drop at text) 27 f.best k
+    best_found = rw e at b.best
 
-  pub token_there : {r w : Bool} → f.found < 27 → r ≡ is_word_kind f.found → WordNext text (at + f.best) w → (r && w) ≡ false
-      → Scanned text at (standing st s) f.found 0 (at + f.best)
-  token_there {r} {w} h e n k =
-      let i = entry_at f.found h in
-      scanned_token text at (standing st s) (get_or fixed f.found (mark skip)) f.found 0 (at + f.best) (entry_kind i)
-      (fixed_carries (entry_fixed i)) (omega arith)
-      (lies_at (best_lies text at (standing st s) f.best f.found b.best h) (standing st s) (b.best.whole h).0
-      (λ j. n.stops (second_false r w (e ∙ j) k)))
+    few_found : k < 27
+    few_found = rw e at b.few
+
+    pub word_longer : {r w : Bool} → r ≡ is_word_kind k → WordNext text (at + f.best) w → (r && w) ≡ true
+        → StuckAt text at (standing st s) (at + f.best)
+    word_longer {r} {w} i n h =
+        let a = and_true r w h in
+        let g = n.goes a.1 in
+        fixed_word text at (standing st s) f.best k p.inside best_found p.no_digit p.no_v few_found (sym i ∙ a.0)
+        g.0 g.1
+
+    pub token_there : {r w : Bool} → r ≡ is_word_kind k → WordNext text (at + f.best) w → (r && w) ≡ false
+        → Scanned text at (standing st s) k 0 (at + f.best)
+    token_there {r} {w} i n h =
+        let d = entry_at k few_found in
+        scanned_token text at (standing st s) (get_or fixed k (mark skip)) k 0 (at + f.best) (entry_kind d)
+        (fixed_carries (entry_fixed d))
+        (lies_at (best_lies text at (standing st s) f.best k best_found few_found) (standing st s) (best_found.whole few_found).0
+        (λ j. n.stops (second_false r w (i ∙ j) h)))

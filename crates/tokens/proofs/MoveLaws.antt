@@ -117,14 +117,10 @@ pub level_up : (left : ℕ) → left + 1 ≡ level 2 left
 unfolding level
 level_up left = add-one left
 
-pub level_none : (left : ℕ) → left ≡ 0 → 0 ≡ level 0 left
+pub level_less : (left : ℕ) → left - 1 ≡ level 0 left
 unfolding level
-level_none left k = rw k
-
-pub level_down : (left : ℕ) → (left ≡ 0 → ⊥) → left - 1 ≡ level 0 left
-unfolding level
-level_down zero k = absurd (k refl)
-level_down (suc n) k = omega arith
+level_less zero = refl
+level_less (suc n) = omega arith
 
 -- ---- frames are opened
 

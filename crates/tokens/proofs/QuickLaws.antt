@@ -299,15 +299,12 @@ held_fixed {text} {at} {k} l e =
     let a = e.0 in
     let f = e.2 in
     record {
-      token = λ h. (get_or fixed k (mark skip), entry_kind i ∙ sym a, fixed_carries (entry_fixed i) ∙ sym e.1, rw (a, f) (lies_at l));
+      token = (get_or fixed k (mark skip), entry_kind i ∙ sym a, fixed_carries (entry_fixed i) ∙ sym e.1, rw (a, f) (lies_at l));
     }
 
 pub held_word : {text : List ℕ} {at k : ℕ} {bs : List ℕ} {r : Bool} → Begun text at k bs → Are text (at + 1) bs r → r ≡ true
     → Held text at k 0 (at + suc (length bs))
 held_word b a e = held_fixed (b.lies (a.there e)) (refl, refl, refl)
-
-pub held_none : {text : List ℕ} {at kind value end : ℕ} → kind ≡ 29 → Held text at kind value end
-held_none e = record { token = λ h. absurd (omega arith) }
 
 pub held_as : {text : List ℕ} {at kind k value end : ℕ} → Held text at kind value end → kind ≡ k → Held text at k value end
 held_as u e = rw e at u
@@ -323,12 +320,12 @@ word_variable = refl
 pub held_number : {text : List ℕ} {at end n : ℕ} → DigitsRead 2147483647 text at end n → Held text at 27 n end
 unfolding kind_of carried
 held_number {text} {at} {end} {n} d =
-    record { token = λ h. (number n, refl, refl, λ sh m w. number_at text at sh d m (w word_number)) }
+    record { token = (number n, refl, refl, λ sh m w. number_at text at sh d m (w word_number)) }
 
 pub held_variable : {text : List ℕ} {at end n : ℕ} → VAt text at → DigitsRead 31 text (at + 1) end n → Held text at 28 n end
 unfolding kind_of carried
 held_variable {text} {at} {end} {n} v d =
-    record { token = λ h. (variable n, refl, refl, λ sh m w. variable_at text at sh v.inside v.byte d m (w word_variable)) }
+    record { token = (variable n, refl, refl, λ sh m w. variable_at text at sh v.inside v.byte d m (w word_variable)) }
 
 -- its first byte is no letter or digit, so it is no word
 lies_sign : {text : List ℕ} {at k end : ℕ} → Lies text at k end → in_word (get_or text at 0) ≡ false → is_word_kind k ≡ false
@@ -351,7 +348,8 @@ quick_fixed {text} {at} {class} {k} {kind = kind} p h l e =
     let n : in_word (get_or text at 0) ≡ false = sym (class_word (get_or text at 0)) ∙ ap word_class (sym p.is) ∙ h in
     let o : is_word_kind kind ≡ false = ap is_word_kind e.0 ∙ lies_sign l n in
     let u = held_fixed l e in
-    record { token = λ z. let t = u.token z in (t.0, t.1, t.2, λ sh m. t.3 sh m (λ w. absurd (clash (is_word_kind kind) w o))) }
+    let t = u.token in
+    record { token = (t.0, t.1, t.2, λ sh m. t.3 sh m (λ w. absurd (clash (is_word_kind kind) w o))) }
 
 module _ {text : List ℕ} {at kind value end : ℕ} where
   pub quick_alone : {c : ℕ} → ClassAt text at c → 64 ≤ c → (kind ≡ c - 64) × (value ≡ 0) × (end ≡ at + 1)
@@ -377,7 +375,4 @@ module _ {text : List ℕ} {at kind value end : ℕ} where
 
 pub quick_parted : {text : List ℕ} {at kind value end : ℕ} {w : Bool} → Held text at kind value end → WordNext text end w
     → w ≡ false → Quick text at kind value end
-quick_parted u w e = record { token = λ l. let t = u.token l in (t.0, t.1, t.2, λ sh m. t.3 sh m (λ i. w.stops e)) }
-
-pub quick_none : {text : List ℕ} {at kind value end : ℕ} → kind ≡ 29 → Quick text at kind value end
-quick_none e = record { token = λ h. absurd (omega arith) }
+quick_parted u w e = let t = u.token in record { token = (t.0, t.1, t.2, λ sh m. t.3 sh m (λ i. w.stops e)) }

@@ -62,33 +62,23 @@ number_carried {kind} {value} h v = rw (le-ltb kind 27 h) at (number_is {kind = 
 -- ---- what is taken
 
 module _ {text : List ℕ} {at : ℕ} {st : List ℕ} {s : Standing} {r : Found} where
-  pub taken_quick : {value : ℕ} → Quick text at r.kind value r.end → r.kind < 29 → NumberIs r.kind value r.number
+  pub taken_quick : {value : ℕ} → Quick text at r.kind value r.end → NumberIs r.kind value r.number
       → Located st s r.kind r.act r.top → (r.act ≡ 0 → ⊥) → Taken text at st s r
-  taken_quick q h n l a =
+  taken_quick q n l a =
       let z = ne_eqb r.act 0 a in
       let m : may (standing st s) r.kind ≡ true = sym (may_is st s _ _ _ l) ∙ ap not z in
-      record {
-        token = λ k. let t = q.token h in (t.0, t.1, n.is t.0 t.1 t.2, t.3 (standing st s) m, l, z);
-        stuck = λ k. absurd (omega arith);
-      }
+      let t = q.token in
+      record { token = (t.0, t.1, n.is t.0 t.1 t.2, t.3 (standing st s) m, l, z) }
 
-  pub taken_stuck : {kind value end : ℕ} → Scanned text at (standing st s) kind value end → 29 ≤ kind
-      → (r.kind ≡ 29) × (r.end ≡ end)
-      → Taken text at st s r
-  taken_stuck q h e =
-      let k = e.0 in
-      let f = e.1 in
-      record { token = λ l. absurd (omega arith); stuck = λ l. rw f (q.stuck h) }
-
-  pub taken_scanned : {value : ℕ} → Scanned text at (standing st s) r.kind value r.end → r.kind < 29
+  pub taken_scanned : {value : ℕ} → Scanned text at (standing st s) r.kind value r.end
       → NumberIs r.kind value r.number → Located st s r.kind r.act r.top → Taken text at st s r
-  taken_scanned q h n l =
-      let t = q.token h in
+  taken_scanned q n l =
+      let t = q.token in
       let b = t.3 in
       let k = t.1 in
       let m : may (standing st s) r.kind ≡ true = rw (← k) b.allowed in
       let z : eqb r.act 0 ≡ false = not-true _ (may_is st s _ _ _ l ∙ m) in
-      record { token = λ y. (t.0, k, n.is t.0 k t.2, b, l, z); stuck = λ y. absurd (omega arith) }
+      record { token = (t.0, k, n.is t.0 k t.2, b, l, z) }
 
 -- ---- a number or a variable where a factor is wanted
 
@@ -112,5 +102,5 @@ module _ {text : List ℕ} {at : ℕ} {st : List ℕ} {s : Standing} {r : Found}
       let z : row_of 4 s.left ≡ row_of s.mode s.left = ap (λ (i : ℕ). row_of i s.left) (sym m) in
       let l : Located st s kind (kind - 12) s.top =
       located_row st s kind (kind - 12) (row_of 4 s.left) (λ q. omega arith) z (operand_act kind s.left g h) in
-      taken_quick {value = value} (rw (k, f) (quick_parted u w e)) (omega arith) (rw (k, n) (number_carried g v)) (rw (k, a, t) l)
+      taken_quick {value = value} (rw (k, f) (quick_parted u w e)) (rw (k, n) (number_carried g v)) (rw (k, a, t) l)
       (λ q. omega arith)

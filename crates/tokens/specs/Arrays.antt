@@ -11,7 +11,7 @@ unfoldable pub stack : List ℕ → ℕ → List ℕ
 stack l zero = []
 stack l (suc i) = get_or l i 0 ∷ stack l i
 
--- the tables that are lent
+-- the tables, as the code has them
 pub record Acts (l : List ℕ) : Type 0 where
   pub is : l ≡ acts
 

@@ -1,5 +1,5 @@
 -- What the scanner's functions ask and promise, part by part.
-use Rattle.std.specs.Prelude.{◌≡◌, ℕ, ◌+◌, ◌<◌, ◌≤◌, Bool, true, false, List, eqb, length, get_or, drop}
+use Rattle.std.specs.Prelude.{◌≡◌, ℕ, ◌+◌, ◌<◌, ◌≤◌, Bool, true, false, List, eqb, length, get_or, drop, unwrap_or, IfSome}
 use Rattle.grammar.specs.Spelling.{is_digit, in_word, is_blank}
 use Rattle.tokens.specs.declared.moves.Standing.{Standing}
 use Rattle.tokens.specs.Arrays.{standing}
@@ -10,13 +10,16 @@ pub record Turn (text : List ℕ) (at : ℕ) (st : List ℕ) (s : Standing) (k :
   pub fits : s.top ≤ 1600
   pub inside : at ≤ length text
   pub token : k < 27
-  pub best : Best (standing st s) (drop at text) k f.best f.found
+  pub best : Best (standing st s) (drop at text) k f.best (unwrap_or f.found 27)
+  pub few : IfSome f.found (λ i. i < 27)
 
 pub record Considered (text : List ℕ) (at : ℕ) (st : List ℕ) (s : Standing) (k : ℕ) (r : Furthest) : Type 0 where
-  pub best : Best (standing st s) (drop at text) (k + 1) r.best r.found
+  pub best : Best (standing st s) (drop at text) (k + 1) r.best (unwrap_or r.found 27)
+  pub few : IfSome r.found (λ i. i < 27)
 
 pub record Furthermost (text : List ℕ) (at : ℕ) (st : List ℕ) (s : Standing) (r : Furthest) : Type 0 where
-  pub best : Best (standing st s) (drop at text) 27 r.best r.found
+  pub best : Best (standing st s) (drop at text) 27 r.best (unwrap_or r.found 27)
+  pub few : IfSome r.found (λ i. i < 27)
   pub inside : at + r.best ≤ length text
 
 pub record WordNext (text : List ℕ) (end : ℕ) (r : Bool) : Type 0 where

@@ -51,11 +51,11 @@ pub record Begun (text : List ℕ) (at k : ℕ) (bs : List ℕ) : Type 0 where
 
 -- a token that is there whole: wherever it may follow it is taken, if no letter or digit goes on with a word
 pub record Held (text : List ℕ) (at kind value end : ℕ) : Type 0 where
-  pub token : kind < 29 → (t : Token) × (kind_of t ≡ kind) × (carried t ≡ value)
+  pub token : (t : Token) × (kind_of t ≡ kind) × (carried t ≡ value)
       × ((sh : Shape) → may sh kind ≡ true → (is_word_kind kind ≡ true → end < length text → in_word (get_or text end 0) ≡ false)
       → TokenAt text at sh t end)
 
 -- and none does
 pub record Quick (text : List ℕ) (at kind value end : ℕ) : Type 0 where
-  pub token : kind < 29
-      → (t : Token) × (kind_of t ≡ kind) × (carried t ≡ value) × ((sh : Shape) → may sh kind ≡ true → TokenAt text at sh t end)
+  pub token :
+      (t : Token) × (kind_of t ≡ kind) × (carried t ≡ value) × ((sh : Shape) → may sh kind ≡ true → TokenAt text at sh t end)

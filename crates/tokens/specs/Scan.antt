@@ -78,7 +78,6 @@ pub record StuckAt (text : List ℕ) (at : ℕ) (sh : Shape) (end : ℕ) : Type 
   pub unread : {limit : ℕ} (S : State limit) → shape_of S ≡ sh → read_from (spot S Pending.nothing) (drop at text) ≡ none
   pub place : {limit : ℕ} (S : State limit) → shape_of S ≡ sh → taken (spot S Pending.nothing) (drop at text) + at ≡ end
 
--- kinds below 29 are tokens; 29 is stuck
+-- a token of this kind that carries this value
 pub record Scanned (text : List ℕ) (at : ℕ) (sh : Shape) (kind value end : ℕ) : Type 0 where
-  pub token : kind < 29 → (t : Token) × (kind_of t ≡ kind) × (carried t ≡ value) × TokenAt text at sh t end
-  pub stuck : 29 ≤ kind → StuckAt text at sh end
+  pub token : (t : Token) × (kind_of t ≡ kind) × (carried t ≡ value) × TokenAt text at sh t end

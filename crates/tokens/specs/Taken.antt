@@ -7,7 +7,7 @@ use Rattle.tokens.specs.Flat.{figure_number}
 use Rattle.tokens.specs.Stand.{kind_of, figure}
 use Rattle.tokens.specs.Arrays.{standing, Located}
 use Rattle.tokens.specs.declared.Found.{Found}
-use Rattle.tokens.specs.Scan.{carried, TokenAt, StuckAt}
+use Rattle.tokens.specs.Scan.{carried, TokenAt}
 use Rattle.tokens.specs.Quick.{class_of}
 
 -- the number of a token of this kind that carries this value
@@ -20,8 +20,7 @@ pub record AtClass (text : List ℕ) (at class : ℕ) (s : Standing) : Type 0 wh
   pub no_blank : is_blank (get_or text at 0) ≡ false
   pub is : class ≡ class_of (get_or text at 0)
 
--- kinds below 29 are tokens that may follow; otherwise the text is stuck at `end`
+-- a token that may follow
 pub record Taken (text : List ℕ) (at : ℕ) (st : List ℕ) (s : Standing) (r : Found) : Type 0 where
-  pub token : r.kind < 29 → (t : Token) × (kind_of t ≡ r.kind) × (figure_number (figure t) ≡ r.number)
+  pub token : (t : Token) × (kind_of t ≡ r.kind) × (figure_number (figure t) ≡ r.number)
       × TokenAt text at (standing st s) t r.end × Located st s r.kind r.act r.top × (eqb r.act 0 ≡ false)
-  pub stuck : 29 ≤ r.kind → StuckAt text at (standing st s) r.end

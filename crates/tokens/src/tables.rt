@@ -1,8 +1,15 @@
-// The tables, as specs/Tables has them. Whoever reads a text lays them down once and lends them.
+// The tables, as specs/Tables has them, and what is read in them.
+// A word becomes a place by `as`, and a place a word: there is no `From` between `u32` and `usize`.
+ghost use Rattle.std.specs.Prelude.{◌≡◌, ◌+◌, ◌<◌};
+ghost use Rattle.tokens.specs.Flat.{act};
+ghost use Rattle.tokens.specs.Scan.{spell_number};
+ghost use Rattle.tokens.specs.Quick.{class_of};
+ghost use Rattle.tokens.specs.Promise.{WordNext};
+ghost use Rattle.tokens.specs.Taken.{NumberIs};
 
 // Which move a mode or a frame makes on a kind of token: 32 rows of 32. Modes 0 to 6, modes 7 to 12 with no level left, frames 13 to 31.
 // 0 is no move, 1 says that the frame is complete.
-pub const ACTS: [u8; 1024] =
+static ACTS: [u8; 1024] =
     *b"\x02\x04\x00\x00\x00\x05\x00\x00\x00\x00\x00\x00\x00\x00\x00\x00\x00\x00\x00\x00\x00\x00\x00\x00\x00\x00\x00\x00\x03\x00\x00\x00\
     \x00\x00\x00\x00\x00\x00\x00\x00\x00\x00\x00\x06\x00\x00\x00\x00\x00\x00\x00\x00\x00\x00\x00\x00\x00\x00\x00\x00\x00\x00\x00\x00\
     \x00\x00\x00\x00\x00\x00\x00\x0d\x0e\x00\x00\x00\x00\x0c\x00\x0b\x00\x00\x00\x00\x00\x00\x00\x00\x00\x07\x08\x09\x0a\x00\x00\x00\
@@ -37,7 +44,7 @@ pub const ACTS: [u8; 1024] =
     \x01\x01\x01\x01\x01\x01\x01\x01\x01\x01\x01\x01\x01\x01\x01\x01\x01\x01\x01\x01\x01\x01\x01\x01\x01\x01\x01\x01\x01\x01\x00\x00";
 
 // The fixed tokens: how long each is, its bytes (6), and 0.
-pub const SPELLINGS: [u8; 216] = *b"\x04\x73\x6b\x69\x70\x00\x00\x00\
+static SPELLINGS: [u8; 216] = *b"\x04\x73\x6b\x69\x70\x00\x00\x00\
     \x02\x69\x66\x00\x00\x00\x00\x00\
     \x04\x74\x68\x65\x6e\x00\x00\x00\
     \x04\x65\x6c\x73\x65\x00\x00\x00\
@@ -67,7 +74,7 @@ pub const SPELLINGS: [u8; 216] = *b"\x04\x73\x6b\x69\x70\x00\x00\x00\
 
 // The class of a byte: the first fixed token that begins with it, 27 for a digit, 28 for the letter v, 29 for nothing, 30 for a
 // blank; 32 more for a letter or digit, 64 more for a byte that is a token by itself.
-pub const CLASSES: [u8; 256] = *b"\x1d\x1d\x1d\x1d\x1d\x1d\x1d\x1d\x1d\x1d\x1e\x1d\x1d\x1d\x1d\x1d\
+static CLASSES: [u8; 256] = *b"\x1d\x1d\x1d\x1d\x1d\x1d\x1d\x1d\x1d\x1d\x1e\x1d\x1d\x1d\x1d\x1d\
     \x1d\x1d\x1d\x1d\x1d\x1d\x1d\x1d\x1d\x1d\x1d\x1d\x1d\x1d\x1d\x1d\
     \x1e\x1d\x1d\x1d\x1d\x55\x1d\x1d\x4d\x4e\x53\x51\x4c\x52\x1d\x54\
     \x3b\x3b\x3b\x3b\x3b\x3b\x3b\x3b\x3b\x3b\x0b\x4a\x17\x56\x1d\x1d\
@@ -85,5 +92,56 @@ pub const CLASSES: [u8; 256] = *b"\x1d\x1d\x1d\x1d\x1d\x1d\x1d\x1d\x1d\x1d\x1e\x
     \x1d\x1d\x1d\x1d\x1d\x1d\x1d\x1d\x1d\x1d\x1d\x1d\x1d\x1d\x1d\x1d";
 
 // The number of each fixed token: an operator's or a relation's is the kind of its node.
-pub const NUMBERS: [u8; 27] =
+static NUMBERS: [u8; 27] =
     *b"\x00\x00\x00\x00\x00\x00\x00\x00\x00\x00\x00\x00\x00\x00\x00\x00\x00\x03\x04\x05\x06\x07\x12\x13\x14\x00\x00";
+
+// The move of a row on a kind of token: 0 none.
+pub(crate) fn act_of(row: u32, kind: u32) -> u32
+    ensures { result ≡ act row kind }
+{
+    let i = 32 * (row as usize) + (kind as usize);
+    if i < 1024 { u32::from(ACTS[i]) } else { 0 }
+}
+
+// How long the fixed token k is.
+pub fn length_of(k: u32) -> usize
+    requires { k < 27 }
+    ensures { result ≡ spell_number k 0 }
+{
+    usize::from(SPELLINGS[8 * (k as usize)])
+}
+
+// Its byte j.
+pub fn letter_of(k: u32, j: usize) -> u8
+    requires { (k < 27) × (j < 6) }
+    ensures { result ≡ spell_number k (1 + j) }
+{
+    SPELLINGS[8 * (k as usize) + (1 + j)]
+}
+
+pub fn class_of(b: u8) -> u32
+    ensures { result ≡ class_of b }
+{
+    u32::from(CLASSES[usize::from(b)])
+}
+
+// A letter or digit is at `end`.
+pub fn word_goes_on(text: &[u8], end: usize) -> bool
+    ensures { WordNext text.now end result }
+{
+    if text.len() <= end {
+        return false;
+    }
+    (class_of(text[end]) & 32) != 0
+}
+
+// The number of a token of this kind that carries this value.
+pub(crate) fn number_of(kind: u32, value: u32) -> u32
+    ensures { NumberIs kind value result }
+{
+    if kind < 27 {
+        u32::from(NUMBERS[kind as usize])
+    } else {
+        value
+    }
+}

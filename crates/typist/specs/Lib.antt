@@ -1,3 +1,2 @@
 -- What the table text of a typed rule is.
 pub mod TableText
-pub mod inside

@@ -8,41 +8,33 @@ ghost use Rattle.rules.specs.Value.{word, value, sum, difference, product, quoti
 pub fn to_word(v: i32) -> u32
     ensures { result ≡ word v }
 {
-    if v >= 0 {
-        v as u32
-    } else {
-        ((v as i64) + 4294967296) as u32
-    }
+    v.cast_unsigned()
 }
 
 // The value of a two's complement word.
 pub fn of_word(w: u32) -> i32
     ensures { result ≡ value w }
 {
-    if w < 2147483648 {
-        w as i32
-    } else {
-        ((w as i64) - 4294967296) as i32
-    }
+    w.cast_signed()
 }
 
 pub fn add(a: i32, b: i32) -> i32
     ensures { result ≡ sum a b }
 {
-    of_word(std::num::wrapping_add_u32(to_word(a), to_word(b)))
+    a.wrapping_add(b)
 }
 
 pub fn sub(a: i32, b: i32) -> i32
     ensures { result ≡ difference a b }
 {
-    of_word(std::num::wrapping_sub_u32(to_word(a), to_word(b)))
+    a.wrapping_sub(b)
 }
 
-// The product of two words modulo 2 ^ 32, through 64 bits.
+// The product of two words modulo 2 ^ 32. Document 01 ("Forms by place") asks for a product helper of one's own, through 64 bits.
 fn wrapping_mul(a: u32, b: u32) -> u32
     ensures { result ≡ a * b % 4294967296 }
 {
-    (((a as u64) * (b as u64)) % 4294967296) as u32
+    (u64::from(a) * u64::from(b) % 4294967296) as u32
 }
 
 pub fn mul(a: i32, b: i32) -> i32
@@ -51,26 +43,16 @@ pub fn mul(a: i32, b: i32) -> i32
     of_word(wrapping_mul(to_word(a), to_word(b)))
 }
 
-// The machine drops a fraction towards zero. Between unlike signs that is upwards: there the dividend goes one nearer to zero first, and the quotient
-// one down.
-fn by_positive(a: i32, b: i32) -> i32
-    requires { pos 0 <ℤ b }
-    ensures { result ≡ quotient a b }
-{
-    if a < 0 { (a + 1) / b - 1 } else { a / b }
-}
-
-// -2147483648 by -1 has no machine quotient, so the divisor -1 negates.
+// By a negative divisor. The machine drops a fraction towards zero. Between unlike signs that is upwards: there the dividend goes one nearer to zero
+// first, and the quotient one down. -2147483648 by -1 has no machine quotient, and wraps.
 fn by_negative(a: i32, b: i32) -> i32
     requires { b <ℤ pos 0 }
     ensures { result ≡ quotient a b }
 {
     if a > 0 {
         (a - 1) / b - 1
-    } else if b == -1 {
-        sub(0, a)
     } else {
-        a / b
+        a.wrapping_div(b)
     }
 }
 
@@ -79,7 +61,7 @@ pub fn div(a: i32, b: i32) -> i32
     ensures { result ≡ quotient a b }
 {
     if b > 0 {
-        by_positive(a, b)
+        a.div_euclid(b)
     } else if b < 0 {
         by_negative(a, b)
     } else {

@@ -1,9 +1,7 @@
 // The lines of the cases: a line lays words, is a heading, or has a title and makes a call.
-ghost use Rattle.std.specs.Prelude.{◌<◌, length};
-
-use crate::calls::Given;
 use crate::numbers::{ROOM, Words};
-use crate::{calls, numbers, parts, show};
+use crate::parts::part;
+use crate::{calls, numbers, show};
 use std::io;
 use std::io::Print;
 
@@ -14,26 +12,17 @@ struct Laid {
     code: usize,
 }
 
-// Where a line begins, and where the last colon was, which is in this line if it has one.
-#[derive(Clone, Copy)]
-struct Place {
-    start: usize,
-    colon: usize,
-    laid: Laid,
-}
-
-fn table_alone(n: usize) -> Laid {
-    Laid { table: n, code: n }
-}
-
-// A line with no title.
+// A line with no title. By its letter, as a call is: an enum would be made from the letter only to be matched once.
 fn lay(rt: &impl Print, kind: u8, line: &[u8], words: &mut Words, laid: Laid) -> io::Result<Laid> {
     match kind {
-        b't' => Ok(table_alone(numbers::lay(line, words, 0))),
-        b'i' => Ok(Laid {
-            table: laid.table,
-            code: numbers::lay(line, words, laid.table),
-        }),
+        b't' => {
+            let table = numbers::lay(line, words, 0);
+            Ok(Laid { table, code: table })
+        }
+        b'i' => {
+            let code = numbers::lay(line, words, laid.table);
+            Ok(Laid { code, ..laid })
+        }
         b'-' => {
             show::say(rt, line)?;
             Ok(laid)
@@ -52,106 +41,47 @@ fn title(rt: &impl Print, kind: u8, text: &[u8]) -> io::Result<()> {
     }
 }
 
-// The numbers behind a colon. Where the fourth is left out it is 32, as many values as a store has.
-fn given(behind: &[u8]) -> Given {
+// The four numbers behind a colon. Where the fourth is left out it is 32, as many values as a store has.
+fn given(behind: &[u8]) -> [u32; 4] {
     let mut numbers = [0u32; ROOM];
     numbers[3] = 32;
     numbers::lay(behind, &mut numbers, 0);
-    Given {
-        first: numbers[0],
-        second: numbers[1],
-        third: numbers[2],
-        fourth: numbers[3],
-    }
+    [numbers[0], numbers[1], numbers[2], numbers[3]]
 }
 
-// A call: its numbers stand behind the colon, and the text that it reads below its line.
-fn call(
-    rt: &impl Print,
-    kind: u8,
-    behind: &[u8],
-    below: &[u8],
-    words: &Words,
-    laid: Laid,
-) -> io::Result<()> {
-    let table = parts::words(words, 0, laid.table);
-    let code = parts::words(words, laid.table, laid.code);
-    calls::call(rt, kind, table, code, below, given(behind))
-}
-
-// A line, up to where the next one begins.
+// A line, and what stands below it. A call's numbers stand behind the last colon, and the text that it reads below its line.
 fn line(
     rt: &impl Print,
-    text: &[u8],
-    next: usize,
-    place: Place,
+    line: &[u8],
+    below: &[u8],
     words: &mut Words,
+    laid: Laid,
 ) -> io::Result<Laid> {
-    let start = place.start;
-    let colon = place.colon;
-    let laid = place.laid;
-    let line = parts::bytes(text, start, next);
-    let kind = parts::byte(line, 0);
-    if colon <= start {
+    let kind = line.first().copied().unwrap_or(0);
+    let colon = line.iter().rposition(|b| *b == b':').unwrap_or(0);
+    if colon == 0 {
         return lay(rt, kind, line, words, laid);
     }
-    if (kind != b'#') & (kind != b' ') {
-        title(rt, kind, parts::bytes(line, 2, colon - start))?;
-        let below = parts::bytes(text, next, text.len());
-        call(
-            rt,
-            kind,
-            parts::bytes(text, colon, next),
-            below,
-            words,
-            laid,
-        )?;
+    if kind != b'#' && kind != b' ' {
+        title(rt, kind, part(line, 2, colon))?;
+        let words: &[u32] = words;
+        let table = part(words, 0, laid.table);
+        let code = part(words, laid.table, laid.code);
+        let behind = part(line, colon, line.len());
+        calls::call(rt, kind, table, code, below, given(behind))?;
     }
     Ok(laid)
 }
 
-fn byte(
-    rt: &impl Print,
-    text: &[u8],
-    at: usize,
-    place: Place,
-    words: &mut Words,
-) -> io::Result<Place>
-    requires { at < length text.now }
-{
-    match text[at] {
-        b':' => {
-            let laid = place.laid;
-            Ok(Place {
-                start: place.start,
-                colon: at,
-                laid,
-            })
-        }
-        b'\n' => {
-            let next = at + 1;
-            let laid = line(rt, text, next, place, words)?;
-            Ok(Place {
-                start: next,
-                colon: place.colon,
-                laid,
-            })
-        }
-        _ => Ok(place),
-    }
-}
-
+// Line by line. What stands behind the last line end is no line. A call needs what stands below its line too, so no `split` goes over them.
 pub(crate) fn run(rt: &impl Print, text: &[u8]) -> io::Result<()> {
     let mut words = [0u32; ROOM];
-    let mut place = Place {
-        start: 0,
-        colon: 0,
-        laid: Laid { table: 0, code: 0 },
-    };
-    let mut at = 0;
-    while at < text.len() {
-        place = byte(rt, text, at, place, &mut words)?;
-        at += 1;
+    let mut laid = Laid { table: 0, code: 0 };
+    let mut rest = text;
+    while let Some(end) = rest.iter().position(|b| *b == b'\n') {
+        let (first, below) = rest.split_at(end + 1);
+        laid = line(rt, first, below, &mut words, laid)?;
+        rest = below;
     }
     Ok(())
 }

@@ -6,108 +6,89 @@ pub(crate) const ROOM: usize = 8200;
 
 pub(crate) type Words = [u32; ROOM];
 
-// How many words there are, and whether the last is negative.
-#[derive(Clone, Copy)]
-struct Place {
+// The words on their way: how many there are, and whether the last is negative. (The sign may come before there is a word, so it is no part of one.)
+#[derive(Drop)]
+struct Laying<'a> {
+    words: &'a mut Words,
     end: usize,
     minus: bool,
 }
 
 // The word with one digit more, modulo 2 ^ 32.
 fn append(word: u32, digit: u8, minus: bool) -> u32 {
-    let tens = (10 * (word as u64) % 4294967296) as u32;
+    let tens = word.wrapping_mul(10);
+    let digit = u32::from(digit);
     if minus {
-        std::num::wrapping_sub_u32(tens, digit as u32)
+        tens.wrapping_sub(digit)
     } else {
-        std::num::wrapping_add_u32(tens, digit as u32)
+        tens.wrapping_add(digit)
     }
-}
-
-fn digit(words: &mut Words, place: Place, d: u8) -> Place {
-    let end = place.end;
-    if 0 < end {
-        if end <= ROOM {
-            words[end - 1] = append(words[end - 1], d, place.minus);
-        }
-    }
-    place
-}
-
-fn begin(words: &mut Words, end: usize) -> Place {
-    if end < ROOM {
-        words[end] = 0;
-        return Place {
-            end: end + 1,
-            minus: false,
-        };
-    }
-    Place { end, minus: false }
 }
 
 // The number that follows a and b.
 fn following(a: u32, b: u32) -> u32 {
-    std::num::wrapping_add_u32(b, std::num::wrapping_sub_u32(b, a))
+    b.wrapping_add(b.wrapping_sub(a))
 }
 
-// One word more.
-fn step(words: &mut Words, end: usize) -> usize {
-    if 8 <= end {
-        if end < ROOM {
-            words[end] = following(words[end - 8], words[end - 4]);
-            return end + 1;
+impl Laying<'_> {
+    // One word more, where there is room.
+    fn push(&mut self, word: u32) {
+        if self.end < ROOM {
+            self.words[self.end] = word;
+            self.end += 1;
         }
     }
-    end
-}
 
-fn steps(words: &mut Words, from: usize, count: u32) -> usize {
-    let mut end = from;
-    let mut left = count;
-    while left > 0 {
-        end = step(words, end);
-        left -= 1;
-    }
-    end
-}
-
-// The last number is how many words follow in its place.
-fn star(words: &mut Words, end: usize) -> Place {
-    if 0 < end {
-        if end <= ROOM {
-            let count = words[end - 1];
-            return Place {
-                end: steps(words, end - 1, count),
-                minus: false,
-            };
+    fn digit(&mut self, d: u8) {
+        if 0 < self.end && self.end <= ROOM {
+            let last = self.end - 1;
+            self.words[last] = append(self.words[last], d, self.minus);
         }
     }
-    Place { end, minus: false }
-}
 
-fn byte(words: &mut Words, place: Place, b: u8) -> Place {
-    match b {
-        b' ' => begin(words, place.end),
-        b'-' => Place {
-            end: place.end,
-            minus: true,
-        },
-        b'*' => star(words, place.end),
-        b'0'..=b'9' => digit(words, place, b - b'0'),
-        _ => place,
+    // The last number is how many words follow in its place.
+    fn star(&mut self) {
+        if 0 < self.end && self.end <= ROOM {
+            self.end -= 1;
+            for _ in 0..self.words[self.end] {
+                self.step();
+            }
+        }
+    }
+
+    // One word more, which goes on from those before it.
+    fn step(&mut self) {
+        if 8 <= self.end && self.end <= ROOM {
+            self.push(following(self.words[self.end - 8], self.words[self.end - 4]));
+        }
+    }
+
+    fn byte(&mut self, b: u8) {
+        match b {
+            b' ' => {
+                self.push(0);
+                self.minus = false;
+            }
+            b'-' => self.minus = true,
+            b'*' => {
+                self.star();
+                self.minus = false;
+            }
+            b'0'..=b'9' => self.digit(b - b'0'),
+            _ => {}
+        }
     }
 }
 
 // Lays the numbers of a line behind the first n words. Answers how many they are then.
 pub(crate) fn lay(line: &[u8], words: &mut Words, n: usize) -> usize {
-    let mut place = Place {
+    let mut laying = Laying {
+        words,
         end: n,
         minus: false,
     };
-    let mut at = 0;
-    while at < line.len() {
-        let b = line[at];
-        place = byte(words, place, b);
-        at += 1;
+    for b in line {
+        laying.byte(*b);
     }
-    place.end
+    laying.end
 }

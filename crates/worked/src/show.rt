@@ -1,6 +1,6 @@
 // How an answer is written: its case, then its numbers in decimal, on one line.
-use crate::parts;
-use rules::{Checked, CodeRun, Compiled, Refusal, SourceRun, Text};
+use crate::parts::part;
+use rules::{End, Halt, Made, Refusal};
 use std::io;
 use std::io::{Print, Write};
 
@@ -8,70 +8,44 @@ pub(crate) fn say(rt: &impl Print, text: &[u8]) -> io::Result<()> {
     io::writer(rt).write_all(text)
 }
 
-fn number(rt: &impl Print, name: &[u8], n: u32) -> io::Result<()> {
-    say(rt, name)?;
-    print!(rt; "{n}")
-}
-
-fn one(rt: &impl Print, name: &[u8], n: u32) -> io::Result<()> {
-    number(rt, name, n)?;
-    say(rt, b"\n")
-}
-
-fn two(rt: &impl Print, name: &[u8], n: u32, second: &[u8], m: u32) -> io::Result<()> {
-    number(rt, name, n)?;
-    one(rt, second, m)
-}
-
 fn refused(rt: &impl Print, r: Refusal) -> io::Result<()> {
-    two(rt, b"refused ", r.number, b" at ", r.place)
+    println!(rt; "refused {} at {}", r.reason.number(), r.place)
 }
 
-pub(crate) fn checked(rt: &impl Print, answer: Checked) -> io::Result<()> {
+pub(crate) fn checked(rt: &impl Print, answer: Result<(), Refusal>) -> io::Result<()> {
     match answer {
-        Checked::Done => say(rt, b"done\n"),
-        Checked::Refused(r) => refused(rt, r),
+        Ok(()) => println!(rt; "done"),
+        Err(r) => refused(rt, r),
     }
 }
 
-pub(crate) fn compiled(rt: &impl Print, answer: Compiled) -> io::Result<()> {
+pub(crate) fn compiled(rt: &impl Print, answer: Result<Made, Refusal>) -> io::Result<()> {
     match answer {
-        Compiled::Done(m) => two(rt, b"done, instructions ", m.instructions, b", end ", m.end),
-        Compiled::Refused(r) => refused(rt, r),
+        Ok(m) => println!(rt; "done, instructions {}, end {}", m.instructions, m.end),
+        Err(r) => refused(rt, r),
     }
 }
 
-pub(crate) fn source_run(rt: &impl Print, answer: SourceRun) -> io::Result<()> {
+pub(crate) fn source_run(rt: &impl Print, answer: Result<End<u32>, Refusal>) -> io::Result<()> {
     match answer {
-        SourceRun::Finished(steps) => one(rt, b"finished, steps ", steps),
-        SourceRun::OutOfFuel(steps) => one(rt, b"out of fuel, steps ", steps),
-        SourceRun::Refused(r) => refused(rt, r),
+        Ok(End::Finished(steps)) => println!(rt; "finished, steps {steps}"),
+        Ok(End::OutOfFuel(steps)) => println!(rt; "out of fuel, steps {steps}"),
+        Err(r) => refused(rt, r),
     }
 }
 
-pub(crate) fn code_run(rt: &impl Print, answer: CodeRun) -> io::Result<()> {
+pub(crate) fn code_run(rt: &impl Print, answer: Result<End<Halt>, Refusal>) -> io::Result<()> {
     match answer {
-        CodeRun::Finished(h) => two(rt, b"finished at ", h.label, b", steps ", h.steps),
-        CodeRun::OutOfFuel(h) => two(rt, b"out of fuel at ", h.label, b", steps ", h.steps),
-        CodeRun::Refused(r) => refused(rt, r),
+        Ok(End::Finished(h)) => println!(rt; "finished at {}, steps {}", h.label, h.steps),
+        Ok(End::OutOfFuel(h)) => println!(rt; "out of fuel at {}, steps {}", h.label, h.steps),
+        Err(r) => refused(rt, r),
     }
 }
 
-pub(crate) fn text(rt: &impl Print, answer: Text) -> io::Result<()> {
+pub(crate) fn text(rt: &impl Print, answer: Result<u32, Refusal>) -> io::Result<()> {
     match answer {
-        Text::Done(n) => one(rt, b"done, ", n),
-        Text::Refused(r) => refused(rt, r),
-    }
-}
-
-// A signed value, in decimal.
-fn value(rt: &impl Print, name: &[u8], v: i32) -> io::Result<()> {
-    let w = value::to_word(v);
-    say(rt, name)?;
-    if w < 2147483648 {
-        number(rt, b"", w)
-    } else {
-        number(rt, b"-", std::num::wrapping_sub_u32(0, w))
+        Ok(n) => println!(rt; "done, {n}"),
+        Err(r) => refused(rt, r),
     }
 }
 
@@ -79,7 +53,7 @@ fn value(rt: &impl Print, name: &[u8], v: i32) -> io::Result<()> {
 pub(crate) fn words(rt: &impl Print, room: &[u32; 4100], n: usize) -> io::Result<()> {
     if n <= 8 {
         let mut lines = [0u8; 66];
-        writing::write_text(parts::words(room, 0, 8), &mut lines);
+        let _ = writing::write_text(part(room, 0, 8), &mut lines);
         say(rt, &lines)?;
     }
     Ok(())
@@ -88,7 +62,7 @@ pub(crate) fn words(rt: &impl Print, room: &[u32; 4100], n: usize) -> io::Result
 // Of a room of up to 34 bytes the first 34.
 pub(crate) fn bytes(rt: &impl Print, room: &[u8; 33792], n: usize) -> io::Result<()> {
     if n <= 34 {
-        say(rt, parts::bytes(room, 0, 34))?;
+        say(rt, part(room, 0, 34))?;
         say(rt, b"\n")?;
     }
     Ok(())
@@ -96,17 +70,13 @@ pub(crate) fn bytes(rt: &impl Print, room: &[u8; 33792], n: usize) -> io::Result
 
 // v1 of the first two crews.
 pub(crate) fn crews(rt: &impl Print, values: &[i32; 16416]) -> io::Result<()> {
-    value(rt, b"  v1 = ", values[1])?;
-    value(rt, b" and ", values[33])?;
-    say(rt, b"\n")
+    println!(rt; "  v1 = {} and {}", values[1], values[33])
 }
 
 // The first two values of a store, where it is one.
 pub(crate) fn variables(rt: &impl Print, values: &[i32; 33], n: usize) -> io::Result<()> {
     if n == 32 {
-        value(rt, b"  v0 = ", values[0])?;
-        value(rt, b", v1 = ", values[1])?;
-        say(rt, b"\n")?;
+        println!(rt; "  v0 = {}, v1 = {}", values[0], values[1])?;
     }
     Ok(())
 }

@@ -12,8 +12,8 @@ use lib.Seq.{sets}
 use Rattle.rules.specs.Refusal.{refusal, refuse, ◌or_else◌}
 use Rattle.rules.specs.Text.{line_length, write_refusal, text_of}
 use Rattle.rules.specs.Answer.{ended, unless_refused}
-use Rattle.rules.specs.declared.Text.{Text}
 use Rattle.writing.specs.Writing.{writing}
+use Rattle.std.specs.Prelude.{Ok, Err}
 
 -- whole frames, and not too many: the test of 14
 abbrev fits : ℕ → List ℕ → Bool
@@ -41,24 +41,24 @@ module _ (w : ℕ) (ws : List ℕ) where
   module _ (room : List ℕ) where
     -- refused 14 at the place that the test gives
     write_refused : (place : ℕ) → fits w ws ≡ false → min 1024 (length ws / w) ≡ place
-        → ended (Text.Refused (refusal 14 place)) room ≡ writing w ws room
+        → ended (Err (refusal 14 place)) room ≡ writing w ws room
     unfolding writing unless_refused write_refusal refuse ◌or_else◌
     write_refused place e p = rw (e, p)
 
-    pub write_late : 0 < w → 1024 < length ws / w → ended (Text.Refused (refusal 14 1024)) room ≡ writing w ws room
+    pub write_late : 0 < w → 1024 < length ws / w → ended (Err (refusal 14 1024)) room ≡ writing w ws room
     write_late p h = write_refused 1024 (late_fails h p) (min-eq_left (omega arith))
 
     pub write_ragged : length ws / w ≤ 1024 → w * (length ws / w) < length ws
-        → ended (Text.Refused (refusal 14 (length ws / w))) room ≡ writing w ws room
+        → ended (Err (refusal 14 (length ws / w))) room ≡ writing w ws room
     write_ragged h l = write_refused (length ws / w) (ragged_fails l) (min-eq_right h)
 
     module _ (h : length ws / w ≤ 1024) (whole : length ws ≤ w * (length ws / w)) where
       pub write_no_room : length room < line_length w * (length ws / w)
-          → ended (Text.Refused (refusal 15 0)) room ≡ writing w ws room
+          → ended (Err (refusal 15 0)) room ≡ writing w ws room
       unfolding writing unless_refused write_refusal refuse ◌or_else◌
       write_no_room l = rw (whole_fits h whole, lt-ltb (length room) (line_length w * (length ws / w)) l)
 
       pub write_done : line_length w * (length ws / w) ≤ length room
-          → ended (Text.Done (line_length w * (length ws / w))) (sets room 0 (text_of w ws)) ≡ writing w ws room
+          → ended (Ok (line_length w * (length ws / w))) (sets room 0 (text_of w ws)) ≡ writing w ws room
       unfolding writing unless_refused write_refusal refuse ◌or_else◌
       write_done l = rw (whole_fits h whole, le-ltb (length room) (line_length w * (length ws / w)) l)

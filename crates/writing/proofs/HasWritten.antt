@@ -9,11 +9,11 @@ use lib.Dec.{eqb, leb}
 use lib.ListN.{length}
 use lib.Seq.{sets}
 use Rattle.rules.specs.Text.{line_length, write_refusal, text_of}
-use Rattle.rules.specs.declared.Text.{Text}
 use Rattle.rules.proofs.ListLaws.{and_true, refuse_none, or_else_none}
 use Rattle.rules.proofs.EndedLaws.{text_done}
 use Rattle.rules.specs.Answer.{ended}
 use Rattle.writing.specs.Writing.{writing}
+use Rattle.std.specs.Prelude.{Ok}
 
 pub record HasWritten (w : ℕ) (ws room : List ℕ) (n : ℕ) (after : List ℕ) : Type 0 where
   pub amount : n ≡ line_length w * (length ws / w)
@@ -22,7 +22,7 @@ pub record HasWritten (w : ℕ) (ws room : List ℕ) (n : ℕ) (after : List ℕ
   pub enough : line_length w * (length ws / w) ≤ length room
   pub left : after ≡ sets room 0 (text_of w ws)
 
-pub has_written : (w : ℕ) (ws room : List ℕ) (n : ℕ) (after : List ℕ) → ended (Text.Done n) after ≡ writing w ws room
+pub has_written : (w : ℕ) (ws room : List ℕ) (n : ℕ) (after : List ℕ) → ended (Ok n) after ≡ writing w ws room
     → HasWritten w ws room n after
 unfolding writing write_refusal
 has_written w ws room n after e =

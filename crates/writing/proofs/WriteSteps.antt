@@ -1,98 +1,169 @@
--- What one turn of a loop of writing adds: two digits, a word, a newline or a line to those that are stored.
-use mathlib.Core.Path.{◌≡◌, sym, ap, ◌∙◌}
-use mathlib.Core.List.{List, [], ◌∷◌}
-use Prim.Native.Nat.{ℕ, ◌+◌, ◌*◌, ◌/◌, ◌%◌, ◌<◌, ◌≤◌}
-use native.Mathlib.Nat.{add_assoc, mul-le-mul_left, mul-suc, mul-div-le}
+-- What one turn of a loop of writing adds: two digits, a word or a line to those that are stored.
+use mathlib.Core.Path.{◌≡◌, refl, sym, ap, ◌∙◌}
+use mathlib.Core.List.{List, [], ◌∷◌, ◌++◌}
+use Prim.Native.Nat.{ℕ, zero, suc, ◌+◌, ◌-◌, ◌*◌, ◌/◌, ◌%◌, ◌^◌, ◌<◌, ◌≤◌}
+use native.Mathlib.Nat.{pow-suc, div-div-eq-div-mul, mul-le-mul_left, le-div_iff_mul-le, mul-suc, mul-zero, zero-add, mul-div-le}
 use native.Mathlib.Numerals.{add-one}
 use native.Mathlib.Omega.{arith}
-use lib.ListN.{length, get_or, set, length-append}
-use lib.Seq.{sets}
-use Rattle.rules.specs.Text.{digit, digits_of, line_length}
-use Rattle.rules.proofs.ListLaws.{length_joined, sets_append, sets_joined, set_before_sets}
+use lib.ListN.{length, get_or, take, drop, set, get_or-append, length-append, length-drop}
+use lib.Seq.{sets, length-sets, set_comm, length-take-le, drop-append_seam, get_or-drop}
+use Rattle.std.specs.Int.{to_le_bytes, w32}
+use Rattle.std.proofs.lemmas.List.{drop-drop}
+use Rattle.rules.specs.Lists.{joined}
+use Rattle.rules.specs.Text.{digit, digits_of, line_length, line_of, text_of}
+use Rattle.rules.proofs.ListLaws.{length_joined, joined_same, sets_joined, sets_part, set_before_sets}
 use Rattle.rules.proofs.DigitLaws.{length_digits_of}
-use Rattle.writing.specs.inside.Parts.{digits_from, line_from, lines_of, CanWrite}
+use Rattle.writing.specs.inside.Parts.{pair_of, digits_of_words, line_of_words, lines_of, CanWrite}
 
--- what writing line k needs
-pub record CanWriteLine (w : ℕ) (ws : List ℕ) (room k : ℕ) : Type 0 where
-  pub ends : w * k + w ≤ length ws
-  pub enough : line_length w * k + line_length w ≤ room
+-- ---- a word
 
-pub can_write_line : (w : ℕ) (ws : List ℕ) (n room k : ℕ) → CanWrite w ws n room → k < n → CanWriteLine w ws room k
-can_write_line w ws n room k can h =
-    let frames : w * n ≤ length ws = rw can.counted (mul-div-le (length ws) w) in
-    record {
-      ends = omega (arith, mul-le-mul_left w h, mul-suc w k);
-      enough = omega (arith, can.enough, mul-le-mul_left (line_length w) h, mul-suc (line_length w) k);
-    }
+-- byte i of a word, from the lowest on
+byte_is : (v i : ℕ) → i < 4 → get_or (to_le_bytes w32 v) i 0 ≡ v / 256 ^ i % 256
+byte_is v zero h = omega arith
+byte_is v (suc zero) h = refl
+byte_is v (suc (suc zero)) h = refl
+byte_is v (suc (suc (suc zero))) h = refl
+byte_is v (suc (suc (suc (suc i)))) h = absurd (omega arith)
 
 -- the last of n + 1 digits, before the others
-digit_stored : (l : List ℕ) (at n v : ℕ)
-    → sets (set l (at + n) (digit (v % 16))) at (digits_of n (v / 16)) ≡ sets l at (digits_of (n + 1) v)
+digit_stored : (l : List ℕ) (n v : ℕ) → sets (set l n (digit (v % 16))) 0 (digits_of n (v / 16)) ≡ sets l 0 (digits_of (n + 1) v)
 unfolding digits_of
-digit_stored l at n v =
+digit_stored l n v =
     rw (add-one n)
-    (ap (λ (m : ℕ). sets (set l (at + m) (digit (v % 16))) at (digits_of n (v / 16))) (sym (length_digits_of n (v / 16)))
-    ∙ set_before_sets (digits_of n (v / 16)) l at (digit (v % 16)))
+    (ap (λ (m : ℕ). sets (set l m (digit (v % 16))) 0 (digits_of n (v / 16))) (sym (zero-add _ ∙ length_digits_of n (v / 16)))
+    ∙ set_before_sets (digits_of n (v / 16)) l 0 (digit (v % 16)))
 
--- the last two of 2 * (n + 1) digits, before the others
-pub pair_stored : (l : List ℕ) (at n v : ℕ)
-    → sets (set (set l (at + 2 * n + 1) (digit (v % 256 % 16))) (at + 2 * n) (digit (v % 256 / 16))) at (digits_of (2 * n) (v / 256))
-    ≡ sets l at (digits_of (2 * (n + 1)) v)
-pair_stored l at n v =
+-- the last two of n + 2 digits, before the others
+two_stored : (l : List ℕ) (n v : ℕ)
+    → sets (set (set l (n + 1) (digit (v % 256 % 16))) n (digit (v % 256 / 16))) 0 (digits_of n (v / 256)) ≡ sets l 0 (digits_of (n + 2) v)
+two_stored l n v =
     let low : v % 256 % 16 ≡ v % 16 = omega arith in
     let rest : v / 256 ≡ v / 16 / 16 = omega arith in
     let high : v % 256 / 16 ≡ v / 16 % 16 = omega arith in
-    let count : 2 * (n + 1) ≡ 2 * n + 1 + 1 = omega arith in
-    rw (low, high, rest, count, add_assoc at (2 * n) 1)
-    (digit_stored (set l (at + (2 * n + 1)) (digit (v % 16))) at (2 * n) (v / 16) ∙ digit_stored l at (2 * n + 1) v)
+    let count : n + 2 ≡ n + 1 + 1 = omega arith in
+    rw (low, high, rest, count) (digit_stored (set l (n + 1) (digit (v % 16))) n (v / 16) ∙ digit_stored l (n + 1) v)
 
-pub length_digits_from : (n : ℕ) (ws : List ℕ) (from : ℕ) → length (digits_from n ws from) ≡ 8 * n
-unfolding digits_from
-length_digits_from n ws from = length_joined (λ i. digits_of 8 (get_or ws (from + i) 0)) 8 n (λ i h. length_digits_of 8 _)
+-- the digits of byte i, before those of the bytes above
+pub pair_stored : (l p : List ℕ) (v i : ℕ) → i < 4 → p ≡ pair_of (get_or (to_le_bytes w32 v) i 0)
+    → sets (set (set l (6 - 2 * i) (get_or p 0 0)) (7 - 2 * i) (get_or p 1 0)) 0 (digits_of (8 - 2 * (i + 1)) (v / 256 ^ (i + 1)))
+    ≡ sets l 0 (digits_of (8 - 2 * i) (v / 256 ^ i))
+unfolding pair_of
+pair_stored l p v i h e =
+    let at : 7 - 2 * i ≡ 6 - 2 * i + 1 = omega arith in
+    let more : 8 - 2 * i ≡ 6 - 2 * i + 2 = omega arith in
+    let less : 8 - 2 * (i + 1) ≡ 6 - 2 * i = omega arith in
+    let rest : v / 256 ^ (i + 1) ≡ v / 256 ^ i / 256 = rw (add-one i, pow-suc 256 i) (sym (div-div-eq-div-mul v (256 ^ i) 256)) in
+    rw (e, byte_is v i h, at, more, less, rest)
+    (ap (λ (m : List ℕ). sets m 0 (digits_of (6 - 2 * i) (v / 256 ^ i / 256))) (set_comm l (6 - 2 * i) (6 - 2 * i + 1) _ _ (omega arith))
+    ∙ two_stored l (6 - 2 * i) (v / 256 ^ i))
 
--- eight digits more, after those of the first n words
-pub digits_stored : (ws l l' r : List ℕ) (from at n : ℕ) → l ≡ sets r at (digits_from n ws from)
-    → l' ≡ sets l (at + 8 * n) (digits_of 8 (get_or ws (from + n) 0)) → l' ≡ sets r at (digits_from (n + 1) ws from)
-unfolding digits_from
-digits_stored ws l l' r from at n e e' =
-    e' ∙ rw e (sets_joined (λ i. digits_of 8 (get_or ws (from + i) 0)) r at (8 * n) n
-    (length_digits_from n ws from))
+-- ---- words
 
--- the newline after the digits of a line
-pub newline_stored : (w : ℕ) (ws l r : List ℕ) (from at : ℕ) → l ≡ sets r at (digits_from w ws from)
-    → set l (at + 8 * w) 10 ≡ sets r at (line_from w ws from)
-newline_stored w ws l r from at e =
-    rw (e, ← length_digits_from w ws from) (sym (sets_append (digits_from w ws from) (10 ∷ []) r at))
+-- the digits of the first n words
+abbrev pub digits_before : List ℕ → ℕ → List ℕ
+digits_before ws = joined (λ i. digits_of 8 (get_or ws i 0))
 
-length_line_from : (w : ℕ) (ws : List ℕ) (from : ℕ) → length (line_from w ws from) ≡ line_length w
-length_line_from w ws from = length-append (digits_from w ws from) (10 ∷ []) ∙ omega (arith, length_digits_from w ws from)
+length_digits_before : (ws : List ℕ) (n : ℕ) → length (digits_before ws n) ≡ 8 * n
+length_digits_before ws n = length_joined (λ i. digits_of 8 (get_or ws i 0)) 8 n (λ i h. length_digits_of 8 _)
 
--- the first k of n lines are stored; frame k begins at word `from`, and its line goes to byte `at`
-pub record WrittenSoFar (w : ℕ) (ws : List ℕ) (n : ℕ) (r l : List ℕ) (k from at : ℕ) : Type 0 where
-  pub at_most : k ≤ n
-  pub begins : from ≡ w * k
-  pub goes_to : at ≡ line_length w * k
+-- one word more, after the first n
+pub word_stored : (ws l l' r part : List ℕ) (n : ℕ) → l ≡ sets r 0 (digits_before ws n) → part ≡ digits_of 8 (get_or ws n 0)
+    → 8 * n + 8 ≤ length l → l' ≡ take (8 * n) l ++ (part ++ drop 8 (drop (8 * n) l))
+    → (length l' ≡ length l) × (l' ≡ sets r 0 (digits_before ws (n + 1)))
+word_stored ws l l' r part n e f h put =
+    let as-long : length part ≡ 8 = rw f (length_digits_of 8 _) in
+    let stored = put ∙ sets_part part l (8 * n) 8 as-long h in
+    let next = sets_joined (λ i. digits_of 8 (get_or ws i 0)) r 0 (8 * n) n (length_digits_before ws n) in
+    (rw stored (length-sets l (8 * n) part), stored ∙ rw (e, f) (simp zero-add at next))
+
+pub length_digits_of_words : (ws : List ℕ) → length (digits_of_words ws) ≡ 8 * length ws
+unfolding digits_of_words
+length_digits_of_words ws = length_digits_before ws (length ws)
+
+length_line_of : (w : ℕ) (ws : List ℕ) (k : ℕ) → length (line_of w ws k) ≡ line_length w
+unfolding line_of
+length_line_of w ws k =
+    let digits = length_joined (λ i. digits_of 8 (get_or ws (w * k + i) 0)) 8 w (λ i h. length_digits_of 8 _) in
+    length-append (joined (λ i. digits_of 8 (get_or ws (w * k + i) 0)) w) (10 ∷ []) ∙ omega (arith, digits)
+
+-- ---- lines
+
+-- a turn of the loop takes this frame off what is left
+pub record Turn (w : ℕ) (left frame rest : List ℕ) : Type 0 where
+  pub parts : left ≡ frame ++ rest
+  pub whole : length frame ≡ w
+
+pub turn_of : (w size : ℕ) (left frame rest : List ℕ) → size ≡ w → (left ≡ frame ++ rest) × (length frame ≡ size) → Turn w left frame rest
+turn_of w size left frame rest e steps = record { parts = steps.0; whole = steps.1 ∙ e }
+
+-- the lines of the frames before k are stored, and frame k begins what is left
+pub record WrittenSoFar (w : ℕ) (ws r l : List ℕ) (k : ℕ) (left : List ℕ) : Type 0 where
+  pub at_most : k ≤ length ws / w
+  pub begins : drop (w * k) ws ≡ left
   pub same_length : length l ≡ length r
   pub stored : l ≡ sets r 0 (lines_of w ws k)
 
-line_bytes_stored : (w : ℕ) (ws r l l' : List ℕ) (k from at : ℕ)
-    → l ≡ sets r 0 (lines_of w ws k) → l' ≡ sets l at (line_from w ws from)
-    → from ≡ w * k → at ≡ line_length w * k → l' ≡ sets r 0 (lines_of w ws (k + 1))
-unfolding lines_of
-line_bytes_stored w ws r l l' k from at e e' p q =
-    let long = length_joined (λ k. line_from w ws (w * k)) (line_length w) k (λ j h. length_line_from w ws (w * j)) in
-    e' ∙ rw (e, p, q) (ap (λ (m : ℕ). sets (sets r 0 (lines_of w ws k)) m (line_from w ws (w * k))) (omega arith)
-    ∙ sets_joined (λ k. line_from w ws (w * k)) r 0 (line_length w * k) k long)
+module _ (w : ℕ) (ws : List ℕ) (k : ℕ) (r l left frame rest : List ℕ) (can : CanWrite w ws (length r)) (so : WrittenSoFar w ws r l k left)
+    (turn : Turn w left frame rest) where
+  frame_whole : w * k + w ≤ length ws
+  frame_whole =
+      omega (arith, length-drop (w * k) ws, ap length so.begins, ap length turn.parts, length-append frame rest, turn.whole, can.some)
 
--- one line more, after the first k
-pub line_written : (w : ℕ) (ws : List ℕ) (n : ℕ) (r l l' : List ℕ) (k from at : ℕ)
-    → WrittenSoFar w ws n r l k from at → k < n → length l' ≡ length l → l' ≡ sets l at (line_from w ws from)
-    → WrittenSoFar w ws n r l' (k + 1) (from + w) (at + line_length w)
-line_written w ws n r l l' k from at so h same e =
-    record {
-      at_most = omega arith;
-      begins = omega (arith, so.begins);
-      goes_to = omega (arith, so.goes_to);
-      same_length = same ∙ so.same_length;
-      stored = line_bytes_stored w ws r l l' k from at so.stored e so.begins so.goes_to;
-    }
+  frame_begun : k < length ws / w
+  frame_begun = (le-div_iff_mul-le {k = w} {x = suc k} {y = length ws} can.some).1 (omega (arith, frame_whole))
+
+  -- what writing line k needs
+  pub line_fits : line_length w * k + line_length w ≤ length l
+  line_fits =
+      omega (arith, so.same_length, can.enough, mul-le-mul_left (line_length w) frame_begun, mul-suc (line_length w) k)
+
+  line_is : line_of_words frame ≡ line_of w ws k
+  unfolding line_of digits_of_words
+  line_is =
+      let begins = so.begins ∙ turn.parts in
+      rw turn.whole (ap (λ (ds : List ℕ). ds ++ (10 ∷ [])) (joined_same _ _ w (λ i h. ap (digits_of 8) (word_in begins i h))))
+    where
+      word_in : drop (w * k) ws ≡ frame ++ rest → (i : ℕ) → i < w → get_or frame i 0 ≡ get_or ws (w * k + i) 0
+      word_in begins i h =
+          sym (get_or-append frame rest 0 i (omega (arith, turn.whole))) ∙ ap (λ (l : List ℕ). get_or l i 0) (sym begins)
+          ∙ get_or-drop (w * k) ws i 0
+
+  -- one line more, after those before k
+  pub line_written : (l' part : List ℕ) → part ≡ line_of_words frame
+      → l' ≡ take (line_length w * k) l ++ (part ++ drop (line_length w) (drop (line_length w * k) l)) → WrittenSoFar w ws r l' (k + 1) rest
+  unfolding lines_of
+  line_written l' part e put =
+      let is = e ∙ line_is in
+      let as-long : length part ≡ line_length w = rw is (length_line_of w ws k) in
+      let stored = put ∙ sets_part part l (line_length w * k) (line_length w) as-long line_fits in
+      let before = length_joined (line_of w ws) (line_length w) k (λ j h. length_line_of w ws j) in
+      let next = sets_joined (line_of w ws) r 0 (line_length w * k) k before in
+      let after : w * (k + 1) ≡ w * k + length frame = omega (arith, turn.whole) in
+      record {
+        at_most = omega (arith, frame_begun);
+        begins = rw (after, ← drop-drop (length frame) (w * k) ws, so.begins, turn.parts) (drop-append_seam frame rest);
+        same_length = rw stored (length-sets l (line_length w * k) part) ∙ so.same_length;
+        stored = stored ∙ rw (so.stored, is) (simp zero-add at next);
+      }
+
+-- the part of a room that is lent for line k
+pub part_for : (long k : ℕ) (l : List ℕ) → long * k + long ≤ length l → length (take (long * k + long - long * k) (drop (long * k) l)) ≡ long
+part_for long k l h =
+    let part : long * k + long - long * k ≡ long = omega arith in
+    rw part (length-take-le long (drop (long * k) l) (rw length-drop (omega arith)))
+
+-- where nothing is passed, none is written
+pub none_written : (w : ℕ) (ws r left : List ℕ) (k : ℕ) → k ≡ 0 → left ≡ ws → WrittenSoFar w ws r r k left
+unfolding lines_of joined
+none_written w ws r left k e f =
+    rw (e, f) (record { at_most = omega arith; begins = rw (mul-zero w); same_length = refl; stored = refl })
+
+-- where less than a frame is left, all is written
+pub all_written : (w : ℕ) (ws r l left : List ℕ) (k : ℕ) → CanWrite w ws (length r) → WrittenSoFar w ws r l k left → length left < w
+    → l ≡ sets r 0 (text_of w ws)
+unfolding lines_of text_of
+all_written w ws r l left k can so short =
+    let none-begun : k < length ws / w → ⊥ =
+    λ h. omega (arith, mul-le-mul_left w h, mul-suc w k, mul-div-le (length ws) w, length-drop (w * k) ws, ap length so.begins) in
+    let all : k ≡ length ws / w = omega (arith, so.at_most, none-begun) in
+    rw all at so.stored

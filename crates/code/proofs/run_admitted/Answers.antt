@@ -26,4 +26,4 @@ unfolding code_run
 returns c =
     rw c.put_back.ensures
     ((rw c.taken-values.ensures at c.run_from-ran.ensures)
-    ∙ sym (ends_unrefused _ _ _ _ c.requires))
+    ∙ sym (ends_unrefused _ _ _ c.requires))

@@ -1,15 +1,19 @@
 -- What the functions of the code run ask of each other: where a run stands in the words of its code, and what one step leaves.
-use Rattle.std.specs.Prelude.{◌≡◌, ℕ, ◌<◌, ◌≤◌, List, length}
+use Rattle.std.specs.Prelude.{◌≡◌, ℕ, ◌<◌, List, length, Option, MatchOption}
 use Rattle.std.proofs.Math.Option.{none}
 use Rattle.rules.specs.Expression.{Store}
 use Rattle.rules.specs.Goto.{next_label, next_store}
 use Rattle.rules.specs.Table.{Accepted, meaning}
 use Rattle.rules.specs.CodeWords.{part, instructions, instr_at, code_refusal}
 
--- position k of the instruction that bears ℓ, or a position past all instructions where none bears it
-pub record Place (c : List ℕ) (ℓ k : ℕ) : Type 0 where
-  pub found : k < instructions c → part c k 0 ≡ ℓ
-  pub absent : instructions c ≤ k → (j : ℕ) → j < instructions c → part c j 0 ≡ ℓ → ⊥
+-- instruction k bears ℓ
+pub record Bears (c : List ℕ) (ℓ k : ℕ) : Type 0 where
+  pub inside : k < instructions c
+  pub label : part c k 0 ≡ ℓ
+
+-- where ℓ stands: at the instruction that bears it, or nowhere
+abbrev pub Place : List ℕ → ℕ → Option ℕ → Type 0
+Place c ℓ place = MatchOption place ((j : ℕ) → Bears c ℓ j → ⊥) (Bears c ℓ)
 
 -- nothing that a run reads is refused
 pub record Admitted (t c : List ℕ) (σ : Store) : Type 0 where
@@ -23,7 +27,7 @@ pub record Stands (t c : List ℕ) (k : ℕ) (σ : Store) : Type 0 where
   pub inside : k < instructions c
 
 -- instruction k has taken the store σ to σ', and the run to ℓ, at this position
-pub record Stepped (t c : List ℕ) (k : ℕ) (σ : Store) (ℓ place : ℕ) (σ' : Store) : Type 0 where
+pub record Stepped (t c : List ℕ) (k : ℕ) (σ : Store) (ℓ : ℕ) (place : Option ℕ) (σ' : Store) : Type 0 where
   pub label : ℓ ≡ next_label (meaning t) (instr_at c k) (part c k 0) σ
   pub store : σ' ≡ next_store (meaning t) (instr_at c k) σ
   pub at : Place c ℓ place

@@ -13,7 +13,7 @@ overflow_add-end c =
 
 pub returns-then-room-instructions : goal.returns-then-room-instructions
 returns-then-room-instructions c =
-    rw c.refused-then-room-instructions.ensures (room_short _ _ _ c.requires (omega arith) (omega arith))
+    rw c.at-then-room-instructions.ensures (room_short _ _ _ c.requires (omega arith) (omega arith))
 
 pub write_code-requires : goal.write_code-requires
 write_code-requires c =

@@ -1,11 +1,14 @@
 -- What the parts of the compiler need and give: the code of a node's statement, as the instructions from i on of code that begins
 -- at a start label, so that instruction i bears the label start + i.
-use Rattle.std.specs.Prelude.{◌≡◌, ℕ, ◌+◌, ◌*◌, ◌<◌, ◌≤◌, List, [], ◌∷◌}
+use Rattle.std.specs.Prelude.{◌≡◌, ℕ, ◌+◌, ◌*◌, ◌<◌, ◌≤◌, List, [], ◌∷◌, length}
 use Rattle.std.proofs.lemmas.List.Edits.{sets}
 use Rattle.rules.specs.While.{Stm}
 use Rattle.rules.specs.Compilation.{size, compile}
 use Rattle.rules.specs.Table.{field, nodes, Kind, statement, row_at, tree_at, stm_of, Accepted}
 use Rattle.rules.specs.CodeWords.{width, words_of}
+use Rattle.compiler.specs.declared.Operation.{Operation}
+use Rattle.compiler.specs.declared.Operation.TheVariants.{Assign, Goto, Ifnot}
+use Rattle.compiler.specs.declared.Code.{Code}
 
 -- the words of node n, as locals hold them
 pub record Words (t : List ℕ) (n w p q r : ℕ) : Type 0 where
@@ -14,6 +17,10 @@ pub record Words (t : List ℕ) (n w p q r : ℕ) : Type 0 where
   pub is_q : q ≡ field t n 2
   pub is_r : r ≡ field t n 3
 
+-- the number of an operation among the words
+abbrev pub number : Operation → ℕ
+number o = elim o [ Assign ↦ 1 | Goto ↦ 2 | Ifnot ↦ 3 ]
+
 -- "label, operation, x, y"
 abbrev pub frame : ℕ → ℕ → ℕ → ℕ → List ℕ
 frame label operation x y = label ∷ operation ∷ x ∷ y ∷ []
@@ -21,6 +28,12 @@ frame label operation x y = label ∷ operation ∷ x ∷ y ∷ []
 -- what the words hold once a frame is written as instruction i
 abbrev pub framed : List ℕ → ℕ → List ℕ → List ℕ
 framed room i ws = sets room (width * i) ws
+
+-- the code begins with the label with which it began, in the same room
+pub record Kept (before after : Code) : Type 0 where
+  pub start : after.start ≡ before.start
+  pub room : after.room.ghost_name ≡ before.room.ghost_name
+  pub long : length after.room.now ≡ length before.room.now
 
 -- there is room for instruction i, and it has a label
 pub record Place (room start i : ℕ) : Type 0 where

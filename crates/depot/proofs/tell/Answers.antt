@@ -1,15 +1,13 @@
--- `tell` writes the words that the definition gives for each case of a run's answer. Assumes nothing.
+-- `tell` writes the words that the definition gives for each end of a run. Assumes nothing.
+use mathlib.Core.Path.{refl}
 use Rattle.depot.specs.Depot.{crew_words}
 use Rattle.depot.proofs.tell.Goals as goal
+use Rattle.depot.proofs.tell.Goals.{in-Finished, in-OutOfFuel}
 
-pub returns-in-Finished : goal.returns-in-Finished
+pub returns : goal.returns
 unfolding crew_words
-returns-in-Finished c = rw c.in-Finished.is c.put.ensures
-
-pub returns-in-OutOfFuel : goal.returns-in-OutOfFuel
-unfolding crew_words
-returns-in-OutOfFuel c = rw c.in-OutOfFuel.is c.put-in-OutOfFuel.ensures
-
-pub returns-in-Refused : goal.returns-in-Refused
-unfolding crew_words
-returns-in-Refused c = rw c.in-Refused.is
+returns c =
+    elim c.match-run.branch [
+      | in-Finished w ↦ rw (c.copy_from_slice.ensures.after, w.verdict-is, w.in-Finished.is) refl
+      | in-OutOfFuel w ↦ rw (c.copy_from_slice.ensures.after, w.verdict-is, w.in-OutOfFuel.is) refl
+    ]

@@ -36,53 +36,53 @@ arith-place-requires m c = word_inside c.requires.ready _ (lit< tt)
 
 pub arith-boolean-requires : goal.arith-boolean-requires
 unfolding row_of
-arith-boolean-requires m c = down c.requires.ready c.place.ensures (a_choose c.requires c.if-k-eq8.true).first (omega linear)
+arith-boolean-requires m c = down c.requires.ready c.place.ensures (a_choose c.requires c.if-k-eq-CHOOSE.true).first (omega linear)
 
 pub arith-place-requires-then-boolean : goal.arith-place-requires-then-boolean
 arith-place-requires-then-boolean m c = word_inside c.requires.ready _ (lit< tt)
 
 pub arith-operand-requires : goal.arith-operand-requires
 unfolding row_of
-arith-operand-requires m c = down c.requires.ready c.place-then-boolean.ensures (a_choose c.requires c.if-k-eq8.true).second (omega linear)
+arith-operand-requires m c = down c.requires.ready c.place-then-boolean.ensures (a_choose c.requires c.if-k-eq-CHOOSE.true).second (omega linear)
 
 pub arith-returns-then-boolean : goal.arith-returns-then-boolean
 arith-returns-then-boolean m c =
     let ready = c.requires.ready in
     let answer = arith_answer ready _ c.operand.type_inv c.operand.ensures c.place-then-boolean.ensures in
     let tested = sym (boolean_answer ready _ c.boolean.ensures c.place.ensures) ∙ c.if-boolean.true in
-    answer ∙ sym (means.choose_true _ (a_choose c.requires c.if-k-eq8.true) tested)
+    answer ∙ sym (means.choose_true _ (a_choose c.requires c.if-k-eq-CHOOSE.true) tested)
 
-pub arith-place-requires-then-k-eq8 : goal.arith-place-requires-then-k-eq8
-arith-place-requires-then-k-eq8 m c = word_inside c.requires.ready _ (lit< tt)
+pub arith-place-requires-then-k-eq-CHOOSE : goal.arith-place-requires-then-k-eq-CHOOSE
+arith-place-requires-then-k-eq-CHOOSE m c = word_inside c.requires.ready _ (lit< tt)
 
-pub arith-operand-requires-then-k-eq8 : goal.arith-operand-requires-then-k-eq8
+pub arith-operand-requires-then-k-eq-CHOOSE : goal.arith-operand-requires-then-k-eq-CHOOSE
 unfolding row_of
-arith-operand-requires-then-k-eq8 m c =
-    down c.requires.ready c.place-then-k-eq8.ensures (a_choose c.requires c.if-k-eq8.true).third (omega linear)
+arith-operand-requires-then-k-eq-CHOOSE m c =
+    down c.requires.ready c.place-then-k-eq-CHOOSE.ensures (a_choose c.requires c.if-k-eq-CHOOSE.true).third (omega linear)
 
-pub arith-returns-then-k-eq8 : goal.arith-returns-then-k-eq8
-arith-returns-then-k-eq8 m c =
+pub arith-returns-then-k-eq-CHOOSE : goal.arith-returns-then-k-eq-CHOOSE
+arith-returns-then-k-eq-CHOOSE m c =
     let ready = c.requires.ready in
-    let answer = arith_answer ready _ c.operand-then-k-eq8.type_inv c.operand-then-k-eq8.ensures c.place-then-k-eq8.ensures in
+    let answer = arith_answer ready _ c.operand-then-k-eq-CHOOSE.type_inv c.operand-then-k-eq-CHOOSE.ensures c.place-then-k-eq-CHOOSE.ensures in
     let tested = sym (boolean_answer ready _ c.boolean.ensures c.place.ensures) ∙ c.if-boolean.false in
-    answer ∙ sym (means.choose_false _ (a_choose c.requires c.if-k-eq8.true) tested)
+    answer ∙ sym (means.choose_false _ (a_choose c.requires c.if-k-eq-CHOOSE.true) tested)
 
 pub arith-place-requires-2 : goal.arith-place-requires-2
 arith-place-requires-2 m c = word_inside c.requires.ready _ (lit< tt)
 
 pub arith-operand-a-requires : goal.arith-operand-a-requires
 unfolding row_of
-arith-operand-a-requires m c = down c.requires.ready c.place-2.ensures (a_binary c.requires c.if-k-eq8.false).first (omega linear)
+arith-operand-a-requires m c = down c.requires.ready c.place-2.ensures (a_binary c.requires c.if-k-eq-CHOOSE.false).first (omega linear)
 
 pub arith-place-requires-3 : goal.arith-place-requires-3
 arith-place-requires-3 m c = word_inside c.requires.ready _ (lit< tt)
 
 pub arith-operand-b-requires : goal.arith-operand-b-requires
 unfolding row_of
-arith-operand-b-requires m c = down c.requires.ready c.place-3.ensures (a_binary c.requires c.if-k-eq8.false).second (omega linear)
+arith-operand-b-requires m c = down c.requires.ready c.place-3.ensures (a_binary c.requires c.if-k-eq-CHOOSE.false).second (omega linear)
 
 pub arith-apply-requires : goal.arith-apply-requires
-arith-apply-requires m c = operator_kind c.requires c.if-k-eq8.false
+arith-apply-requires m c = operator_kind c.requires c.if-k-eq-CHOOSE.false
 
 pub arith-returns : goal.arith-returns
 arith-returns m c =
@@ -90,7 +90,7 @@ arith-returns m c =
     let a = arith_answer ready _ c.operand-a.type_inv c.operand-a.ensures c.place-2.ensures in
     let b = arith_answer ready _ c.operand-b.type_inv c.operand-b.ensures c.place-3.ensures in
     let answer = read_back c.apply.result c.apply.type_inv ∙ c.apply.ensures ∙ ap₂ (apply _) a b in
-    answer ∙ sym (means.binary_means _ (a_binary c.requires c.if-k-eq8.false))
+    answer ∙ sym (means.binary_means _ (a_binary c.requires c.if-k-eq-CHOOSE.false))
 
 -- ---- `boolean`: the node is a comparison, a truth, a negation or, in the last arm, a conjunction
 
@@ -135,9 +135,6 @@ boolean-place-requires-then-k m c = word_inside c.requires _ (lit< tt)
 pub boolean-operand-b-requires : goal.boolean-operand-b-requires
 unfolding row_of
 boolean-operand-b-requires m c = down c.requires c.place-then-k.ensures (a_compare c.requires c.word-k.ensures c.if-k.true).second (omega linear)
-
-pub boolean-compare-requires : goal.boolean-compare-requires
-boolean-compare-requires m c = relation_kind_lem c.requires c.word-k.ensures c.if-k.true
 
 pub boolean-returns-then-k : goal.boolean-returns-then-k
 boolean-returns-then-k m c =

@@ -22,23 +22,23 @@ by_kind : (k o : ℕ) (f : ℤ → ℤ → ℤ) (a b r : ℤ) → InRange a → 
     → r ≡ f (back w32 a) (back w32 b) → back w32 r ≡ apply (operator_of k) a b
 by_kind k o f a b r g i e same h said = called f a b r g i h said ∙ sym same ∙ sym (ap (λ (x : ℕ). apply (operator_of x) a b) e)
 
-pub returns-then-k-eq3 : goal.returns-then-k-eq3
+pub returns-then-k-eq-PLUS : goal.returns-then-k-eq-PLUS
 unfolding operator_of fetch apply
-returns-then-k-eq3 c = by_kind _ 3 sum _ _ _ c.ranges.a c.ranges.b c.if-k-eq3.true refl c.add.type_inv c.add.ensures
+returns-then-k-eq-PLUS c = by_kind _ 3 sum _ _ _ c.ranges.a c.ranges.b c.if-k-eq-PLUS.true refl c.add.type_inv c.add.ensures
 
-pub returns-then-k-le4 : goal.returns-then-k-le4
+pub returns-then-k-le-MINUS : goal.returns-then-k-le-MINUS
 unfolding operator_of fetch apply
-returns-then-k-le4 c =
+returns-then-k-le-MINUS c =
     let four : c.args.k ≡ 4 = omega arith in
     by_kind _ 4 difference _ _ _ c.ranges.a c.ranges.b four refl c.sub.type_inv c.sub.ensures
 
-pub returns-then-k-eq5 : goal.returns-then-k-eq5
+pub returns-then-k-eq-TIMES : goal.returns-then-k-eq-TIMES
 unfolding operator_of fetch apply
-returns-then-k-eq5 c = by_kind _ 5 product _ _ _ c.ranges.a c.ranges.b c.if-k-eq5.true refl c.mul.type_inv c.mul.ensures
+returns-then-k-eq-TIMES c = by_kind _ 5 product _ _ _ c.ranges.a c.ranges.b c.if-k-eq-TIMES.true refl c.mul.type_inv c.mul.ensures
 
-pub returns-then-k-eq6 : goal.returns-then-k-eq6
+pub returns-then-k-eq-OVER : goal.returns-then-k-eq-OVER
 unfolding operator_of fetch apply
-returns-then-k-eq6 c = by_kind _ 6 quotient _ _ _ c.ranges.a c.ranges.b c.if-k-eq6.true refl c.div.type_inv c.div.ensures
+returns-then-k-eq-OVER c = by_kind _ 6 quotient _ _ _ c.ranges.a c.ranges.b c.if-k-eq-OVER.true refl c.div.type_inv c.div.ensures
 
 pub returns : goal.returns
 unfolding operator_of fetch apply

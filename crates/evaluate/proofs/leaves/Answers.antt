@@ -6,7 +6,7 @@ use lib.Dec.{leb, lit<}
 use borrow.Author.Tests.{leb-true}
 use Rattle.rules.specs.Table.{arithmetic}
 use Rattle.rules.proofs.ListLaws.{and_true}
-use Rattle.evaluate.proofs.Nodes.{word_inside, value_answer}
+use Rattle.evaluate.proofs.Nodes.{word_inside}
 use Rattle.evaluate.proofs.leaves.Goals as goal
 
 both_low : (a b : ℕ) → (leb a 2 && leb b 2) ≡ true → (a ≤ 2) × (b ≤ 2)
@@ -23,17 +23,3 @@ word-first-requires c = word_inside {c = arithmetic} (rw c.place-p.ensures c.req
 
 pub word-second-requires : goal.word-second-requires
 word-second-requires c = word_inside {c = arithmetic} (rw c.place-q.ensures c.requires.second) _ (lit< tt)
-
-pub leaf-a-requires : goal.leaf-a-requires
-leaf-a-requires c = record { ready = rw c.place-p.ensures c.requires.first; kind = c.word-first.ensures; low = (both_low _ _ c.if-both.true).0 }
-
-pub leaf-b-requires : goal.leaf-b-requires
-leaf-b-requires c = record { ready = rw c.place-q.ensures c.requires.second; kind = c.word-second.ensures; low = (both_low _ _ c.if-both.true).1 }
-
-pub returns-then-both : goal.returns-then-both
-returns-then-both c =
-    let ready = c.requires.node in
-    λ _. (
-      value_answer ready _ c.leaf-a.type_inv c.leaf-a.ensures c.place-p.ensures,
-      value_answer ready _ c.leaf-b.type_inv c.leaf-b.ensures c.place-q.ensures,
-    )

@@ -27,9 +27,9 @@ a_compare {k = k} ready kind e =
 pub word-k-requires : goal.word-k-requires
 word-k-requires c = word_inside c.requires _ (lit< tt)
 
-pub leaves-two-requires : goal.leaves-two-requires
+pub leaves-requires : goal.leaves-requires
 unfolding row_of
-leaves-two-requires c =
+leaves-requires c =
     let known = a_compare c.requires c.word-k.ensures c.if-k.true in
     record {
       class = boolean;
@@ -38,10 +38,7 @@ leaves-two-requires c =
       second = child_ready c.requires refl known.second;
     }
 
-pub compare-requires : goal.compare-requires
-compare-requires c = relation_kind_lem _ c.if-k.true
-
-pub returns-then-two : goal.returns-then-two
-returns-then-two c =
-    let worth = c.leaves-two.ensures c.if-two.true in
+pub returns-in-Some : goal.returns-in-Some
+returns-in-Some c =
+    let worth = c.in-Some.ensures in
     c.compare.ensures ∙ ap₂ (holds _) (passed worth.0) (passed worth.1) ∙ sym (compare_means _ (a_compare c.requires c.word-k.ensures c.if-k.true))

@@ -25,16 +25,10 @@ module _ {t : List ℕ} {n k : ℕ} (ready : Ready t n arithmetic) (kind : k ≡
 pub word-k-requires : goal.word-k-requires
 word-k-requires c = word_inside c.requires _ (lit< tt)
 
-pub leaf-requires : goal.leaf-requires
-leaf-requires c = record { ready = c.requires; kind = c.word-k.ensures; low = c.if-k-le2.true }
-
-pub returns-then-k-le2 : goal.returns-then-k-le2
-returns-then-k-le2 c = read_back c.leaf.result c.leaf.type_inv ∙ c.leaf.ensures
-
-pub leaves-two-requires : goal.leaves-two-requires
+pub leaves-requires : goal.leaves-requires
 unfolding row_of
-leaves-two-requires c =
-    let known = a_binary c.requires c.word-k.ensures c.if-k-le2.false c.if-k-ne8.true in
+leaves-requires c =
+    let known = a_binary c.requires c.word-k.ensures c.if-k-le-VARIABLE.false c.if-k-ne-CHOOSE.true in
     record {
       class = arithmetic;
       node = c.requires;
@@ -43,16 +37,10 @@ leaves-two-requires c =
     }
 
 pub apply-requires : goal.apply-requires
-apply-requires c = operator_kind c.requires c.word-k.ensures c.if-k-le2.false c.if-k-ne8.true
+apply-requires c = operator_kind c.requires c.word-k.ensures c.if-k-le-VARIABLE.false c.if-k-ne-CHOOSE.true
 
-pub returns-then-two : goal.returns-then-two
-returns-then-two c =
-    let worth = c.leaves-two.ensures c.if-two.true in
-    let known = a_binary c.requires c.word-k.ensures c.if-k-le2.false c.if-k-ne8.true in
+pub returns-in-Some : goal.returns-in-Some
+returns-in-Some c =
+    let worth = c.in-Some.ensures in
+    let known = a_binary c.requires c.word-k.ensures c.if-k-le-VARIABLE.false c.if-k-ne-CHOOSE.true in
     read_back c.apply.result c.apply.type_inv ∙ c.apply.ensures ∙ ap₂ (apply _) (passed worth.0) (passed worth.1) ∙ sym (binary_means _ known)
-
-pub arith-requires : goal.arith-requires
-arith-requires c = record { ready = c.requires; kind = c.word-k.ensures; high = c.if-k-le2.false }
-
-pub returns : goal.returns
-returns c = read_back c.arith.result c.arith.type_inv ∙ c.arith.ensures

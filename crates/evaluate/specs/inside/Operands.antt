@@ -1,5 +1,5 @@
 -- What the evaluators tell each other: the operation of a kind, and what is known of a node's operands.
-use Rattle.std.specs.Prelude.{◌≡◌, ℕ, ◌<◌, ◌≤◌, Bool, true, List, [], ◌∷◌, ℤ}
+use Rattle.std.specs.Prelude.{◌≡◌, ℕ, ◌<◌, ◌≤◌, List, [], ◌∷◌, ℤ}
 use Rattle.std.proofs.Math.Option.{none, some}
 use Rattle.std.specs.Int.Signed.{mag}
 use Rattle.rules.specs.Lists.{fetch}
@@ -38,6 +38,6 @@ pub record Value (t : List ℕ) (n : ℕ) (σ : Store) (r : ℤ) : Type 0 where
   pub is : r ≡ (meaning t).arith n σ
   pub small : mag r < 2147483648
 
--- a and b are what they are worth, if both is true
-abbrev pub Worth : List ℕ → ℕ → Store → Bool → ℤ → ℤ → Type 0
-Worth t n σ both a b = both ≡ true → Value t (field t n 1) σ a × Value t (field t n 2) σ b
+-- a and b are what they are worth
+abbrev pub Worth : List ℕ → ℕ → Store → ℤ → ℤ → Type 0
+Worth t n σ a b = Value t (field t n 1) σ a × Value t (field t n 2) σ b

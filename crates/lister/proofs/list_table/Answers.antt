@@ -1,31 +1,28 @@
 -- `list_table` compiles the table, and writes the text of its code or the line of its refusal.
-use mathlib.Core.Path.{◌≡◌, refl}
-use native.Mathlib.Nat.{sub-zero}
-use native.Mathlib.Omega.{arith}
-use Prim.Native.Nat.{◌*◌}
-use lib.ListN.{length}
+use Rattle.std.proofs.Common.{◌*◌, refl, sym, arith}
+use Rattle.std.proofs.Math.Seq.{length-take-le}
 use Rattle.rules.specs.CodeWords.{width}
-use Rattle.lister.proofs.Endings.{compiled, compiled_listed, refused_listed}
+use Rattle.lister.proofs.Endings.{compiled, code_frames, compiled_listed, refused_listed}
 use Rattle.lister.proofs.list_table.Goals as goal
 
-pub list_code-requires : goal.list_code-requires
-list_code-requires c =
-    let args = c.args in
-    let done = c.in-Done.is in
-    let has = compiled _ args.n _ args.words.now _ _ _ (sub-zero _) refl c.compile-compiled.ensures _ done in
-    let long : length c.compile-compiled.new.room ≡ width * 1024 = c.compile-compiled.auto.room in
-    (omega (arith, has.few), has.few)
+pub slice_bounds-code-end : goal.slice_bounds-code-end
+slice_bounds-code-end c =
+    let has = compiled _ _ _ _ _ refl c.compile.ensures _ c.in-Ok.is in
+    omega (arith, has.few, c.compile.auto.room)
 
-pub returns-in-Refused : goal.returns-in-Refused
-returns-in-Refused c =
-    let args = c.args in
-    let refused = c.in-Refused.is in
-    refused_listed _ args.n _ args.words.now _ _ _ (sub-zero _) refl c.compile-compiled.ensures _ (omega arith) refused
-    c.refused.ensures
+pub slice_bounds-list_frames-end : goal.slice_bounds-list_frames-end
+slice_bounds-list_frames-end c =
+    let has = compiled _ _ _ _ _ refl c.compile.ensures _ c.in-Ok.is in
+    sym (length-take-le (width * c.in-Ok.made.instructions) c.compile.new.room (omega (arith, has.few, c.compile.auto.room)))
 
-pub returns-in-Done : goal.returns-in-Done
-returns-in-Done c =
-    let args = c.args in
-    let done = c.in-Done.is in
-    let has = compiled _ args.n _ args.words.now _ _ _ (sub-zero _) refl c.compile-compiled.ensures _ done in
-    compiled_listed has c.list_code.ensures
+pub list_frames-requires : goal.list_frames-requires
+list_frames-requires c =
+    code_frames (compiled _ _ _ _ _ refl c.compile.ensures _ c.in-Ok.is) c.compile.auto.room
+
+pub returns-in-Err : goal.returns-in-Err
+returns-in-Err c =
+    refused_listed _ _ _ _ _ refl c.compile.ensures _ (omega arith) c.in-Err.is c.refused.ensures
+
+pub returns-in-Ok : goal.returns-in-Ok
+returns-in-Ok c =
+    compiled_listed (compiled _ _ _ _ _ refl c.compile.ensures _ c.in-Ok.is) c.list_frames.ensures

@@ -5,4 +5,4 @@ use Rattle.lister.proofs.refused.Goals as goal
 
 pub returns : goal.returns
 returns c =
-    line_listed _ _ _ _ (omega arith) c.write_pairs.ensures
+    line_listed _ _ _ _ (omega arith) (rw c.number.ensures at c.write_pairs.ensures)

@@ -1,53 +1,38 @@
 -- `first_fault` meets its contract. The loop's invariant is `Sought`.
-use mathlib.Core.Path.{◌≡◌, sym, ◌∙◌}
-use native.Mathlib.Omega.{arith}
-use native.Mathlib.Nat.{mul-zero}
-use native.Mathlib.Numerals.{add-one}
-use Rattle.rules.specs.Refusal.{fine}
-use Rattle.rules.specs.Text.{line_fault}
-use Rattle.rules.proofs.ListLaws.{one_more}
-use Rattle.rules.proofs.TextLaws.{lines_begun}
-use Rattle.reading.proofs.ReadSteps.{fault_late, fault_short, fault_bytes, no_fault, first_fault, all_fine}
+use Rattle.std.proofs.Common.{sym, ◌∙◌, arith, rules}
+use Rattle.std.proofs.lemmas.List.{nil_from_length}
+use Rattle.reading.proofs.ReadSteps.{turn_of, late, short, not_line, one_fine, all_fine}
 use Rattle.reading.proofs.first_fault.Goals as goal
-
-pub loop-k-init : goal.loop-k-init
-loop-k-init c =
-    record { at_most = omega arith; allowed = omega arith; begins = sym (mul-zero _); fine_before = λ j h. absurd (omega arith) }
+use Rattle.reading.proofs.first_fault.Goals.{
+  then-k-ge1024-via-then-k-ge1024,
+  then-k-ge1024-via-else-k-ge1024+then-line-digits,
+  then-k-ge1024-via-else-k-ge1024+else-line-digits+then-not-is_line,
+}
 
 pub returns-then-k-ge1024 : goal.returns-then-k-ge1024
 returns-then-k-ge1024 c =
-    let so = c.loop-k.invariant in
-    first_fault _ _ _ so.allowed so.fine_before (omega (arith, c.requires)) (fault_late _ _ _ (omega arith))
-
-pub overflow_sub-text : goal.overflow_sub-text
-overflow_sub-text c =
-    omega (arith, lines_begun c.args.w c.args.text.now c.loop-k.k (omega (arith, c.requires)))
-
-pub returns-then-text-at : goal.returns-then-text-at
-returns-then-text-at c =
-    let so = c.loop-k.invariant in
-    first_fault _ _ _ so.allowed so.fine_before (omega (arith, c.requires)) (fault_short _ _ _ (omega arith))
-
-pub returns-then-not-is_line : goal.returns-then-not-is_line
-returns-then-not-is_line c =
-    let so = c.loop-k.invariant in
-    let bad = sym c.is_line.ensures ∙ c.if-not-is_line.true in
-    first_fault _ _ _ so.allowed so.fine_before (omega (arith, c.requires))
-    (fault_bytes _ _ _ (rw so.begins at bad))
+    let steps = c.in-Some.ensures.steps in
+    let so = c.loop-k.invariant.3 in
+    let turn = turn_of _ _ _ _ _ c.loop-k.invariant.2 steps.0.1 in
+    rw steps.1 (elim c.then-k-ge1024.branch [
+      | then-k-ge1024-via-then-k-ge1024 w ↦ late _ _ _ _ _ _ so turn (omega (arith, steps.1, w.if-k-ge1024.true))
+      | then-k-ge1024-via-else-k-ge1024+then-line-digits w ↦ short _ _ _ _ _ _ so turn (omega (arith, w.if-line-digits.true))
+      | then-k-ge1024-via-else-k-ge1024+else-line-digits+then-not-is_line w ↦
+          not_line _ _ _ _ _ _ so turn (omega (arith, w.if-line-digits.false)) (sym w.is_line.ensures ∙ w.if-not-is_line.true)
+    ])
 
 pub loop-k-preserved : goal.loop-k-preserved
 loop-k-preserved c =
-    let l = c.loop-k in
-    let good = sym c.is_line.ensures ∙ c.if-not-is_line.false in
-    let none = no_fault _ _ l.k (omega arith) (omega arith) (rw l.invariant.begins at good) in
-    record {
-      at_most = omega arith;
-      allowed = omega arith;
-      begins = omega arith;
-      fine_before = rw (add-one l.k) (one_more {P = λ j. line_fault _ _ j ≡ fine} l.k l.invariant.fine_before none);
-    }
+    let steps = c.in-Some.ensures.steps in
+    let turn = turn_of _ _ _ _ _ c.loop-k.invariant.2 steps.0.1 in
+    let good = sym c.is_line.ensures ∙ c.if-not-is_line.false in (
+      search rules,
+      search rules,
+      steps.0.0 ∙ c.loop-k.invariant.2,
+      rw steps.2 (one_fine _ _ _ _ _ _ c.loop-k.invariant.3 turn (omega (arith, steps.1)) (omega (arith, c.if-line-digits.false)) good),
+    )
 
 pub returns : goal.returns
 returns c =
-    let so = c.loop-k.invariant in
-    all_fine _ _ _ so.allowed so.fine_before (omega (arith, c.requires))
+    let none = nil_from_length _ c.in-None.ensures.steps.0.1.0 in
+    all_fine _ _ _ (rw none at c.loop-k.invariant.3)

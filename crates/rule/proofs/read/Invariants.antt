@@ -6,7 +6,7 @@ use Rattle.rule.proofs.read.Given as goal
 
 abbrev pub invariant-loop-at : goal.invariant-loop-at
 invariant-loop-at l =
-    Midway l.text l.at l.st l.args l.roots l.deep l.words l.s l.b
+    Midway l.text l.at l.stack l.nodes l.s
 
 abbrev pub decreases-loop-at : goal.decreases-loop-at
 decreases-loop-at l =

@@ -3,11 +3,15 @@
 use Rattle.std.specs.Prelude.{◌≡◌, ℕ, zero, suc, ◌+◌, ◌-◌, ◌*◌, ◌<◌, ◌≤◌, max, true, cond, List, [], ◌∷◌, ◌++◌, eqb, length, get_or, take, set}
 use Rattle.rules.specs.Table.{Kind}
 use Rattle.grammar.specs.Written.{Node, kind_number, size, depth, written}
-use Rattle.tokens.specs.Flat.{Form, no_node, leaf, one, two, three, numbered, form_of, make, arity, sizes, sequences, amount, kind}
+use Rattle.tokens.specs.Flat.{no_node, leaf, one, two, three, numbered, make, arity, sizes, sequences, amount, kind}
+use Rattle.tokens.specs.Flat
 use Rattle.tokens.specs.Flat.{Frame, frame, tag_of, figure_of, closing, closes, waiting_in, waiting_all}
 use Rattle.tokens.specs.Shape.{tags}
 use Rattle.tokens.specs.Arrays.{stack}
-use Rattle.rule.specs.declared.nodes.Built.{Built}
+use Rattle.tokens.specs.declared.moves.Stack.{Stack}
+use Rattle.rule.specs.declared.nodes.Form.{Form}
+use Rattle.rule.specs.declared.nodes.Form.TheVariants.{Leaf, One, Two, Three, Numbered}
+use Rattle.rule.specs.declared.nodes.Nodes.{Nodes}
 
 -- ---- nodes in arrays, the last first
 
@@ -30,15 +34,21 @@ pub record Holds (ns : List Node) (roots deep words : List ℕ) (depth count : �
   pub words_are : take (4 * count) words ≡ written_of ns
   pub count_is : count ≡ sizes ns
 
-pub record Room (roots deep words : List ℕ) : Type 0 where
-  pub roots_room : length roots ≡ 1028
-  pub deep_room : length deep ≡ 1028
-  pub words_room : length words ≡ 4096
+abbrev pub Held : List Node → Nodes → Type 0
+Held ns Ns = Holds ns Ns.roots Ns.deep Ns.words Ns.depth Ns.count
 
 -- ---- a node
 
+-- what the code names a form
+abbrev pub form_is : Form → Flat.Form
+form_is Leaf = leaf
+form_is One = one
+form_is Two = two
+form_is Three = three
+form_is Numbered = numbered
+
 -- its words, where a, b and c are the nodes that it is made of, and the depth below it
-unfoldable pub first : Form → ℕ → ℕ → ℕ
+unfoldable pub first : Flat.Form → ℕ → ℕ → ℕ
 first no_node x a = x
 first leaf x a = x
 first one x a = a
@@ -46,7 +56,7 @@ first two x a = a
 first three x a = a
 first numbered x a = x
 
-unfoldable pub second : Form → ℕ → ℕ → ℕ
+unfoldable pub second : Flat.Form → ℕ → ℕ → ℕ
 second no_node a b = 0
 second leaf a b = 0
 second one a b = 0
@@ -54,7 +64,7 @@ second two a b = b
 second three a b = b
 second numbered a b = a
 
-unfoldable pub third : Form → ℕ → ℕ
+unfoldable pub third : Flat.Form → ℕ → ℕ
 third no_node c = 0
 third leaf c = 0
 third one c = 0
@@ -62,7 +72,7 @@ third two c = 0
 third three c = c
 third numbered c = 0
 
-unfoldable pub below : Form → ℕ → ℕ → ℕ → ℕ
+unfoldable pub below : Flat.Form → ℕ → ℕ → ℕ → ℕ
 below no_node a b c = 0
 below leaf a b c = 0
 below one a b c = a
@@ -73,63 +83,59 @@ below numbered a b c = a
 -- four words more
 pub record Put (words : List ℕ) (count a b c d : ℕ) (after : List ℕ) : Type 0 where
   pub front : take (4 * count + 4) after ≡ take (4 * count) words ++ (a ∷ b ∷ c ∷ d ∷ [])
-  pub room : length after ≡ length words
 
 -- n nodes from `base` on are there, of which the last is the last that was written
-pub record Writing (roots deep words : List ℕ) (base n count form : ℕ) : Type 0 where
-  pub room : Room roots deep words
-  pub some : 0 < n → 0 < count
-  pub last : (i : ℕ) → n ≡ suc i → get_or roots (base + i) 0 ≡ count - 1
+pub record Writing (Ns : Nodes) (base n : ℕ) (form : Flat.Form) : Type 0 where
+  pub some : 0 < n → 0 < Ns.count
+  pub last : (i : ℕ) → n ≡ suc i → get_or Ns.roots (base + i) 0 ≡ Ns.count - 1
   pub base_few : base ≤ 1024
-  pub free : count < 1024
-  pub form_is : form ≤ 5
-  pub depth_few : below (form_of form) (get_or deep base 0) (get_or deep (base + 1) 0) (get_or deep (base + 2) 0) ≤ 1024
+  pub free : Ns.count < 1024
+  pub depth_few : below form (get_or Ns.deep base 0) (get_or Ns.deep (base + 1) 0) (get_or Ns.deep (base + 2) 0) ≤ 1024
 
-pub record NodeWritten (roots deep words : List ℕ) (base count form kind x : ℕ) (roots₂ deep₂ words₂ : List ℕ) : Type 0 where
-  pub roots_are : roots₂ ≡ set roots base count
-  pub depths_are : deep₂ ≡ set deep base (below (form_of form) (get_or deep base 0) (get_or deep (base + 1) 0) (get_or deep (base + 2) 0) + 1)
-  pub put : Put words count kind (first (form_of form) x (get_or roots base 0))
-      (second (form_of form) (get_or roots base 0) (get_or roots (base + 1) 0))
-      (third (form_of form) (get_or roots (base + 2) 0)) words₂
+pub record NodeWritten (Ns : Nodes) (base : ℕ) (form : Flat.Form) (kind x : ℕ) (Ns₂ : Nodes) : Type 0 where
+  pub roots_are : Ns₂.roots ≡ set Ns.roots base Ns.count
+  pub depths_are : Ns₂.deep
+      ≡ set Ns.deep base (below form (get_or Ns.deep base 0) (get_or Ns.deep (base + 1) 0) (get_or Ns.deep (base + 2) 0) + 1)
+  pub put : Put Ns.words Ns.count kind (first form x (get_or Ns.roots base 0))
+      (second form (get_or Ns.roots base 0) (get_or Ns.roots (base + 1) 0))
+      (third form (get_or Ns.roots (base + 2) 0)) Ns₂.words
+  pub depth_is : Ns₂.depth ≡ base + 1
+  pub count_is : Ns₂.count ≡ Ns.count + 1
 
 -- the nodes that are held, as long as they are not too many, and those that a node of this form is made of are among them
-pub record Parts (roots deep words : List ℕ) (b : Built) (n : ℕ) : Type 0 where
+pub record Parts (Ns : Nodes) (n : ℕ) : Type 0 where
   pub nodes : List Node
-  pub held : Holds nodes roots deep words b.depth b.count
+  pub held : Held nodes Ns
   pub parts : n ≤ length nodes
 
-pub record Making (roots deep words : List ℕ) (b : Built) (form : ℕ) : Type 0 where
-  pub room : Room roots deep words
-  pub most : b.count ≤ 1025
-  pub form_is : form ≤ 5
-  pub some : b.count ≤ 1024 → Parts roots deep words b (arity (form_of form))
+pub record Making (Ns : Nodes) (form : Flat.Form) : Type 0 where
+  pub most : Ns.count ≤ 1025
+  pub some : Ns.count ≤ 1024 → Parts Ns (arity form)
 
 -- the nodes ns become ms, or ms are too many
-pub record Become (ns ms : List Node) (roots deep words : List ℕ) (b : Built) (roots₂ deep₂ words₂ : List ℕ) (r : Built) : Type 0 where
-  pub held : r.count ≤ 1024 → Holds ns roots deep words b.depth b.count → Holds ms roots₂ deep₂ words₂ r.depth r.count
-  pub full : 1024 < r.count → Holds ns roots deep words b.depth b.count → 1024 < sizes ms
+pub record Become (ns ms : List Node) (Ns Ns₂ : Nodes) : Type 0 where
+  pub held : Ns₂.count ≤ 1024 → Held ns Ns → Held ms Ns₂
+  pub full : 1024 < Ns₂.count → Held ns Ns → 1024 < sizes ms
 
 -- and where they were too many they still are
-pub record Kept (roots deep words : List ℕ) (b r : Built) : Type 0 where
-  pub room : Room roots deep words
-  pub most : r.count ≤ 1025
-  pub same : r.count ≤ 1024 → b.count ≤ 1024
+pub record Kept (Ns Ns₂ : Nodes) : Type 0 where
+  pub most : Ns₂.count ≤ 1025
+  pub same : Ns₂.count ≤ 1024 → Ns.count ≤ 1024
 
-pub record Made (roots deep words : List ℕ) (b : Built) (form kind x : ℕ) (roots₂ deep₂ words₂ : List ℕ) (r : Built) : Type 0 where
-  pub become : (k : Kind) (ns : List Node) → kind_number k ≡ kind → arity (form_of form) ≤ length ns
-      → Become ns (make (form_of form) k x ns) roots deep words b roots₂ deep₂ words₂ r
-  pub kept : Kept roots₂ deep₂ words₂ b r
+pub record Made (Ns : Nodes) (form : Flat.Form) (kind x : ℕ) (Ns₂ : Nodes) : Type 0 where
+  pub become : (k : Kind) (ns : List Node) → kind_number k ≡ kind → arity form ≤ length ns
+      → Become ns (make form k x ns) Ns Ns₂
+  pub kept : Kept Ns Ns₂
 
 -- ---- a row of statements
 
-pub record Rowing (roots deep words : List ℕ) (b : Built) (k : ℕ) : Type 0 where
-  pub room : Room roots deep words
-  pub most : b.count ≤ 1025
-  pub some : b.count ≤ 1024 → Parts roots deep words b (suc k)
+pub record Rowing (Ns : Nodes) (k : ℕ) : Type 0 where
+  pub most : Ns.count ≤ 1025
+  pub some : Ns.count ≤ 1024 → Parts Ns (suc k)
 
-pub record RowMade (roots deep words : List ℕ) (b : Built) (k : ℕ) (roots₂ deep₂ words₂ : List ℕ) (r : Built) : Type 0 where
-  pub become : (ns : List Node) → k < length ns → Become ns (sequences k ns) roots deep words b roots₂ deep₂ words₂ r
-  pub kept : Kept roots₂ deep₂ words₂ b r
+pub record RowMade (Ns : Nodes) (k : ℕ) (Ns₂ : Nodes) : Type 0 where
+  pub become : (ns : List Node) → k < length ns → Become ns (sequences k ns) Ns Ns₂
+  pub kept : Kept Ns Ns₂
 
 -- ---- a frame
 
@@ -152,20 +158,19 @@ pub record Closable (F : Frame) (f x : ℕ) (ns : List Node) : Type 0 where
   pub enough : length ns ≡ suc (waiting_in F + more)
 
 -- the nodes that are held, and the frame
-pub record Over (roots deep words : List ℕ) (b : Built) (f x : ℕ) : Type 0 where
+pub record Over (Ns : Nodes) (f x : ℕ) : Type 0 where
   pub nodes : List Node
-  pub held : Holds nodes roots deep words b.depth b.count
+  pub held : Held nodes Ns
   pub frame : Frame
   pub closable : Closable frame f x nodes
 
-pub record Closing (roots deep words : List ℕ) (b : Built) (f x : ℕ) : Type 0 where
-  pub room : Room roots deep words
-  pub most : b.count ≤ 1025
-  pub some : b.count ≤ 1024 → Over roots deep words b f x
+pub record Closing (Ns : Nodes) (f x : ℕ) : Type 0 where
+  pub most : Ns.count ≤ 1025
+  pub some : Ns.count ≤ 1024 → Over Ns f x
 
-pub record Closed (roots deep words : List ℕ) (b : Built) (f x : ℕ) (roots₂ deep₂ words₂ : List ℕ) (r : Built) : Type 0 where
-  pub become : (F : Frame) (ns : List Node) → Closable F f x ns → Become ns (closing F ns) roots deep words b roots₂ deep₂ words₂ r
-  pub kept : Kept roots₂ deep₂ words₂ b r
+pub record Closed (Ns : Nodes) (f x : ℕ) (Ns₂ : Nodes) : Type 0 where
+  pub become : (F : Frame) (ns : List Node) → Closable F f x ns → Become ns (closing F ns) Ns Ns₂
+  pub kept : Kept Ns Ns₂
 
 -- ---- frames one after the other
 
@@ -184,27 +189,26 @@ closings (suc m) [] ns = ns
 closings (suc m) (f ∷ fs) ns = closings m fs (closing f ns)
 
 -- the frames fs stand in two arrays up to `top`, over the nodes ns
-pub record Frames (fs : List Frame) (st ar : List ℕ) (top : ℕ) (ns : List Node) : Type 0 where
-  pub tags_are : tags fs ≡ stack st top
-  pub figures_are : figures fs ≡ stack ar top
+pub record Frames (fs : List Frame) (K : Stack) (top : ℕ) (ns : List Node) : Type 0 where
+  pub tags_are : tags fs ≡ stack K.tags top
+  pub figures_are : figures fs ≡ stack K.figures top
   pub kinded : AllKinded fs
   pub enough : length ns ≡ suc (waiting_all fs)
 
-pub record AllOver (roots deep words st ar : List ℕ) (b : Built) (top to : ℕ) : Type 0 where
+pub record AllOver (Ns : Nodes) (K : Stack) (top to : ℕ) : Type 0 where
   pub nodes : List Node
-  pub held : Holds nodes roots deep words b.depth b.count
+  pub held : Held nodes Ns
   pub frames : List Frame
-  pub stands : Frames frames st ar top nodes
-  pub closes : (i : ℕ) → to ≤ i → i < top → closes (get_or st i 0) ≡ true
+  pub stands : Frames frames K top nodes
+  pub closes : (i : ℕ) → to ≤ i → i < top → closes (get_or K.tags i 0) ≡ true
 
-pub record Descending (roots deep words st ar : List ℕ) (b : Built) (top to : ℕ) : Type 0 where
-  pub room : Room roots deep words
-  pub most : b.count ≤ 1025
+pub record Descending (Ns : Nodes) (K : Stack) (top to : ℕ) : Type 0 where
+  pub most : Ns.count ≤ 1025
   pub fits : top ≤ 1600
-  pub some : b.count ≤ 1024 → AllOver roots deep words st ar b top to
+  pub some : Ns.count ≤ 1024 → AllOver Ns K top to
 
-pub record Descended (roots deep words st ar : List ℕ) (b : Built) (top to : ℕ) (roots₂ deep₂ words₂ : List ℕ) (r : Built) : Type 0 where
-  pub become : (fs : List Frame) (ns : List Node) → Frames fs st ar top ns
-      → ((i : ℕ) → to ≤ i → i < top → closes (get_or st i 0) ≡ true)
-      → Become ns (closings (top - to) fs ns) roots deep words b roots₂ deep₂ words₂ r
-  pub kept : Kept roots₂ deep₂ words₂ b r
+pub record Descended (Ns : Nodes) (K : Stack) (top to : ℕ) (Ns₂ : Nodes) : Type 0 where
+  pub become : (fs : List Frame) (ns : List Node) → Frames fs K top ns
+      → ((i : ℕ) → to ≤ i → i < top → closes (get_or K.tags i 0) ≡ true)
+      → Become ns (closings (top - to) fs ns) Ns Ns₂
+  pub kept : Kept Ns Ns₂

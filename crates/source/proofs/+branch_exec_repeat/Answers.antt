@@ -51,7 +51,7 @@ branch-exec-requires-else-boolean m c =
 
 pub branch-returns-then-boolean : goal.branch-returns-then-boolean
 branch-returns-then-boolean m c =
-    rw c.pay.ensures
+    rw c.saturating_sub.ensures
     (if_true (of_kind c.requires.0) (omega linear)
     (tested c.args.t.now.now c.args.s.now c.boolean.ensures c.place.ensures c.if-boolean.true)
     _ (ran_as c.exec.ensures c.place-then-boolean.ensures))

@@ -3,29 +3,32 @@
 use mathlib.Core.Path.{◌≡◌, ap, sym, ◌∙◌}
 use native.Mathlib.Omega.{arith}
 use lib.ListN.{length}
+use borrow.Author.Rules.{rules}
+use Rattle.std.specs.Prelude.{Err}
 use Rattle.rules.proofs.TableLaws.{accepted_facts}
 use Rattle.table.proofs.Answer.{accepted, refused}
 use Rattle.source.proofs.Statements.{ran_length, left_most}
 use Rattle.source.proofs.Endings.{table_refused, store_refused, source_spent, source_finished}
 use Rattle.source.proofs.run_source.Goals as goal
 
-pub returns-in-Refused : goal.returns-in-Refused
-returns-in-Refused c =
-    sym (table_refused c.args.table.now c.args.store.now c.args.fuel (refused c.args.table.now c.check-checked.ensures _ c.in-Refused.is))
+pub returns-in_err-check : goal.returns-in_err-check
+returns-in_err-check c =
+    let told : c.from_residual.result ≡ Err c.in_err-check.field-0.0 = search rules in
+    rw told (sym (table_refused c.args.table.now c.args.store.now c.args.fuel (refused c.args.table.now c.check.ensures _ c.in_err-check.was)))
 
 pub returns-then-store-ne32 : goal.returns-then-store-ne32
 returns-then-store-ne32 c =
-    let passed = accepted c.args.table.now c.check-checked.ensures c.in_default.is in
-    sym (store_refused c.args.table.now c.args.store.now c.args.fuel passed c.if-store-ne32.true)
+    let passed = accepted c.args.table.now c.check.ensures c.in_ok-check.was in
+    rw c.at.ensures (sym (store_refused c.args.table.now c.args.store.now c.args.fuel passed c.if-store-ne32.true))
 
 pub overflow_sub-root : goal.overflow_sub-root
 overflow_sub-root c =
-    let facts = accepted_facts c.args.table.now (accepted c.args.table.now c.check-checked.ensures c.in_default.is) in
+    let facts = accepted_facts c.args.table.now (accepted c.args.table.now c.check.ensures c.in_ok-check.was) in
     omega (arith, facts.some_nodes)
 
 pub exec-left-requires : goal.exec-left-requires
 exec-left-requires c =
-    let passed = accepted c.args.table.now c.check-checked.ensures c.in_default.is in
+    let passed = accepted c.args.table.now c.check.ensures c.in_ok-check.was in
     let facts = accepted_facts c.args.table.now passed in
     (record { accepted = passed; inside = omega (arith, facts.some_nodes); class = facts.root_statement }, omega arith)
 
@@ -36,9 +39,9 @@ put_back-requires c =
 
 pub returns-then-left-eq0 : goal.returns-then-left-eq0
 returns-then-left-eq0 c =
-    let passed = accepted c.args.table.now c.check-checked.ensures c.in_default.is in
+    let passed = accepted c.args.table.now c.check.ensures c.in_ok-check.was in
     let values : length c.args.store.now ≡ 32 = omega arith in
-    let ran = rw c.taken-values.ensures at c.exec-left.ensures in
+    let ran = rw (c.taken-values.ensures, c.from.ensures) at c.exec-left.ensures in
     rw c.put_back.ensures (sym (source_spent c.args.table.now c.args.store.now c.args.fuel passed values (rw c.if-left-eq0.true at ran)))
 
 -- no more is left than was given
@@ -50,7 +53,7 @@ overflow_sub-result-2 c = omega (arith, left_most _ c.exec-left.ensures (omega a
 
 pub returns : goal.returns
 returns c =
-    let passed = accepted c.args.table.now c.check-checked.ensures c.in_default.is in
+    let passed = accepted c.args.table.now c.check.ensures c.in_ok-check.was in
     let values : length c.args.store.now ≡ 32 = omega arith in
-    let ran = rw c.taken-values.ensures at c.exec-left.ensures in
+    let ran = rw (c.taken-values.ensures, c.from.ensures) at c.exec-left.ensures in
     rw c.put_back.ensures (sym (source_finished c.args.table.now c.args.store.now c.args.fuel passed values _ (omega arith) ran))

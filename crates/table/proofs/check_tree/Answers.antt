@@ -1,51 +1,46 @@
 -- `table::check_tree` meets its contract: the marks say how often each node is named, so that the first not named once is 8's place.
-use mathlib.Core.Path.{◌≡◌, sym, ◌∙◌}
-use Prim.Native.Nat.{ℕ, ◌<◌}
-use native.Mathlib.Omega.{arith}
-use borrow.Author.Rules.{rules}
+use Rattle.std.proofs.Common.{refl, ap, sym, ◌∙◌, arith, rules}
 use borrow.Author.Tests.{leb-true, leb-false}
+use Rattle.std.specs.Prelude.{Err}
 use Rattle.rules.specs.Table.{root}
-use Rattle.table.specs.inside.Sets.{named}
+use Rattle.table.specs.declared.rows.Slot.TheVariants.{Statement}
+use Rattle.table.proofs.RowLaws.{other_slot}
 use Rattle.table.proofs.CheckLaws.{refused_7, refused_8, refused_9, none_refused}
 use Rattle.table.proofs.DepthLaws.{depth_most}
 use Rattle.table.proofs.check_tree.Goals as goal
 
-pub known_row_at-requires : goal.known_row_at-requires
-known_row_at-requires c =
-    let pre = c.requires in
-    (search rules, pre.rows_right, pre.sound _ pre.within.inside)
+pub returns-then-ne : goal.returns-then-ne
+returns-then-ne c =
+    let t = c.args.t.now in
+    let other = other_slot t (root t) _ c.known_row_at-own.ensures Statement refl c.ne.ensures c.if-ne.true in
+    ap Err c.at.ensures ∙ sym (refused_7 t other)
 
-pub returns-then-known_row_at-ne2 : goal.returns-then-known_row_at-ne2
-returns-then-known_row_at-ne2 c =
-    c.refused.ensures ∙ sym (refused_7 _ c.known_row_at.result c.known_row_at.ensures (λ e. omega arith))
-
-pub returns-then-k-root : goal.returns-then-k-root
-returns-then-k-root c =
-    let first = c.first_not_once-k.ensures in
-    let lower = c.if-k-root.true in
-    c.refused-then-k-root.ensures
-    ∙ sym
-    (refused_8 c.args.t.now c.known_row_at.result c.known_row_at.ensures (omega arith) _ c.requires.marks
-    (search rules) _ lower first.once (first.not_once (omega (arith, lower))))
+pub returns-in-Some : goal.returns-in-Some
+returns-in-Some c =
+    let t = c.args.t.now in
+    let is_statement = other_slot t (root t) _ c.known_row_at-own.ensures Statement refl c.ne.ensures c.if-ne.false in
+    let lower = c.in-Some.ensures.0 in
+    let first = c.in-Some.ensures.1 in
+    ap Err c.at-in-Some.ensures
+    ∙ sym (refused_8 t is_statement _ c.requires.marks (search rules) _ lower first.once (first.not_once (omega (arith, lower))))
 
 pub returns-then-low : goal.returns-then-low
 returns-then-low c =
-    let all_ones : (k : ℕ) → k < root c.args.t.now → named (c.args.once.now, c.args.again.now) k ≡ 1 = λ k h. c.first_not_once-k.ensures.once k (omega arith) in
-    sym
-    (none_refused c.args.t.now c.known_row_at.result c.known_row_at.ensures (omega arith) _ c.requires.marks (search rules) all_ones
-    (omega (arith, depth_most c.args.t.now c.requires.sound (root c.args.t.now) c.requires.within.inside)))
+    let t = c.args.t.now in
+    let is_statement = other_slot t (root t) _ c.known_row_at-own.ensures Statement refl c.ne.ensures c.if-ne.false in
+    let depth = depth_most t c.requires.sound (root t) c.requires.within.inside in
+    sym (none_refused t is_statement _ c.requires.marks (search rules) c.in_default.ensures (omega (arith, depth)))
 
-pub returns-then-shallow : goal.returns-then-shallow
-returns-then-shallow c =
-    let all_ones : (k : ℕ) → k < root c.args.t.now → named (c.args.once.now, c.args.again.now) k ≡ 1 = λ k h. c.first_not_once-k.ensures.once k (omega arith) in
-    sym
-    (none_refused c.args.t.now c.known_row_at.result c.known_row_at.ensures (omega arith) _ c.requires.marks (search rules) all_ones
-    (leb-true _ 256 (sym c.shallow.ensures ∙ c.if-shallow.true)))
+pub returns-then-is_shallow : goal.returns-then-is_shallow
+returns-then-is_shallow c =
+    let t = c.args.t.now in
+    let is_statement = other_slot t (root t) _ c.known_row_at-own.ensures Statement refl c.ne.ensures c.if-ne.false in
+    let shallow = leb-true _ 256 (sym c.is_shallow.ensures ∙ c.if-is_shallow.true) in
+    sym (none_refused t is_statement _ c.requires.marks (search rules) c.in_default.ensures shallow)
 
-pub returns-else-shallow : goal.returns-else-shallow
-returns-else-shallow c =
-    let all_ones : (k : ℕ) → k < root c.args.t.now → named (c.args.once.now, c.args.again.now) k ≡ 1 = λ k h. c.first_not_once-k.ensures.once k (omega arith) in
-    c.refused-else-shallow.ensures
-    ∙ sym
-    (refused_9 c.args.t.now c.known_row_at.result c.known_row_at.ensures (omega arith) _ c.requires.marks (search rules) all_ones
-    (leb-false _ 256 (sym c.shallow.ensures ∙ c.if-shallow.false)))
+pub returns-else-is_shallow : goal.returns-else-is_shallow
+returns-else-is_shallow c =
+    let t = c.args.t.now in
+    let is_statement = other_slot t (root t) _ c.known_row_at-own.ensures Statement refl c.ne.ensures c.if-ne.false in
+    let deep = leb-false _ 256 (sym c.is_shallow.ensures ∙ c.if-is_shallow.false) in
+    ap Err c.at-else-is_shallow.ensures ∙ sym (refused_9 t is_statement _ c.requires.marks (search rules) c.in_default.ensures deep)

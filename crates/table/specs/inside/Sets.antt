@@ -33,6 +33,10 @@ bumps m ks = foldl bump m ks
 unfoldable pub marks_of : List ℕ → Marks
 marks_of t = bumps (replicate 32 0, replicate 32 0) (joined (children t) (nodes t))
 
+-- every node below n is named exactly once
+abbrev pub AllOnce : Marks → ℕ → Type 0
+AllOnce m n = (k : ℕ) → k < n → named m k ≡ 1
+
 -- r is the nodes of a word that are not named exactly once
 abbrev pub NotOnce : ℕ → ℕ → ℕ → Type 0
 NotOnce once again r = (j : ℕ) → j < 32 → bit r j ≡ 1 - (bit once j + bit again j) % 2

@@ -1,16 +1,28 @@
 -- `write_table` reads the rule, and writes the text of its table or the line of its refusal.
-use mathlib.Core.Path.{refl}
+use Rattle.std.proofs.Common.{refl, sym, arith}
+use Rattle.std.proofs.Math.Seq.{length-take-le}
 use Rattle.typist.proofs.Endings.{table_read, unread_written, table_written}
 use Rattle.typist.proofs.write_table.Goals as goal
 
-pub write_lines-requires : goal.write_lines-requires
-write_lines-requires c =
-    (table_read _ _ _ _ refl c.read_rule-read.ensures _ c.in-Done.is).frames
+pub slice_bounds-words-end : goal.slice_bounds-words-end
+slice_bounds-words-end c =
+    let has = table_read _ _ _ _ refl c.read_rule.ensures _ c.in-Ok.is in
+    omega (arith, has.few, c.read_rule.auto.room)
 
-pub returns-in-Refused : goal.returns-in-Refused
-returns-in-Refused c =
-    unread_written _ _ _ _ refl c.read_rule-read.ensures _ c.in-Refused.is c.refused.ensures
+pub slice_bounds-list_frames-end : goal.slice_bounds-list_frames-end
+slice_bounds-list_frames-end c =
+    let has = table_read _ _ _ _ refl c.read_rule.ensures _ c.in-Ok.is in
+    sym (length-take-le c.in-Ok.n c.read_rule.new.room (omega (arith, has.few, c.read_rule.auto.room)))
 
-pub returns-in-Done : goal.returns-in-Done
-returns-in-Done c =
-    table_written _ _ _ _ refl c.read_rule-read.ensures _ c.in-Done.is c.write_lines.ensures
+pub list_frames-requires : goal.list_frames-requires
+list_frames-requires c =
+    (table_read _ _ _ _ refl c.read_rule.ensures _ c.in-Ok.is).frames
+
+pub returns-in-Err : goal.returns-in-Err
+returns-in-Err c =
+    unread_written _ _ _ _ refl c.read_rule.ensures _ c.in-Err.is c.refused.ensures
+
+pub returns-in-Ok : goal.returns-in-Ok
+returns-in-Ok c =
+    let listed = table_written _ _ _ _ refl c.read_rule.ensures _ c.in-Ok.is c.list_frames.ensures in
+    record { count = omega (arith, listed.count); left = listed.left; within = omega (arith, listed.within) }

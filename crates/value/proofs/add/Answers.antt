@@ -1,17 +1,10 @@
--- `value::add` meets its contract, by the words of its operands.
-use Rattle.rules.specs.Value.{wrap, sum}
-use Rattle.rules.proofs.ValueLaws.{word_sum}
-use Rattle.value.proofs.Machine.{read_back}
+-- `value::add` meets its contract: what the library's `wrapping_add` leaves is wrapped.
+use Rattle.std.proofs.Common.{◌∙◌, w32}
+use Rattle.std.proofs.lemmas.Int.{wrapping_add_is}
+use Rattle.rules.specs.Value.{sum}
+use Rattle.value.proofs.Machine.{wraps}
 use Rattle.value.proofs.add.Goals as goal
 
 pub returns : goal.returns
-unfolding sum wrap
-returns c =
-    let a = c.args.a in
-    let b = c.args.b in
-    cc (
-      read_back a c.ranges.a.sfits,
-      read_back b c.ranges.b.sfits,
-      read_back c.of_word.result c.of_word.type_inv,
-      word_sum a b,
-    )
+unfolding sum
+returns c = wrapping_add_is w32 c.args.a c.args.b c.ranges.a c.ranges.b ∙ wraps _

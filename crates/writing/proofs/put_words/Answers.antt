@@ -1,28 +1,24 @@
 -- `put_words` meets its contract. The loop's invariant: the digits of the first i words are stored.
-use mathlib.Core.Path.{◌≡◌, refl, ◌∙◌}
-use native.Mathlib.Omega.{arith}
+use Rattle.std.proofs.Common.{◌≡◌, ◌+◌, ◌-◌, ◌*◌, length, refl, sym, ◌∙◌, arith}
 use Rattle.rules.specs.Lists.{joined}
-use Rattle.writing.specs.inside.Parts.{digits_from}
-use Rattle.writing.proofs.WriteSteps.{digits_stored}
+use Rattle.rules.proofs.ListLaws.{sets_whole}
+use Rattle.writing.specs.inside.Parts.{digits_of_words}
+use Rattle.writing.proofs.WriteSteps.{length_digits_of_words, word_stored}
 use Rattle.writing.proofs.put_words.Goals as goal
 
 pub loop-i-init : goal.loop-i-init
-unfolding digits_from joined
-loop-i-init c = (omega arith, refl, refl)
-
-pub put_word-requires : goal.put_word-requires
-put_word-requires c = (c.requires.0, omega arith)
+unfolding joined
+loop-i-init c = (refl, refl)
 
 pub loop-i-preserved : goal.loop-i-preserved
 loop-i-preserved c =
     let l = c.loop-i in
-    let put = c.put_word in
-    (omega arith, put.auto.room ∙ l.invariant.1, digits_stored _ _ _ _ _ _ _ l.invariant.2 put.ensures)
-
-pub shape_of-room : goal.shape_of-room
-shape_of-room c = c.loop-i.invariant.1
+    let eight : 8 * l.i + 8 - 8 * l.i ≡ 8 = omega arith in
+    let put = word_stored _ l.room _ _ _ l.i l.invariant.1 c.put_word.ensures (omega (arith, l.invariant.0, c.requires)) refl in
+    rw eight (put.0 ∙ l.invariant.0, put.1)
 
 pub returns : goal.returns
+unfolding digits_of_words
 returns c =
-    let all : c.loop-i.i ≡ c.args.w = omega arith in
-    rw all at c.loop-i.invariant.2
+    let all : c.loop-i.i ≡ length c.args.words.now = omega arith in
+    rw (c.loop-i.invariant.1, all) (sets_whole _ _ (length_digits_of_words c.args.words.now ∙ sym c.requires))

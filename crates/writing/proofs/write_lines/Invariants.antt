@@ -1,10 +1,13 @@
 -- `write_lines` meets its contract. The loop's invariant is `WrittenSoFar`.
-use Prim.Native.Nat.{◌-◌}
+use Rattle.std.proofs.Common.{◌≡◌}
+use Rattle.std.specs.Slice.Iter.{chunks_exact_rest, chunks_exact_size}
+use Rattle.std.specs.Iterator.Adapters.{enumerate_source, enumerate_count}
 use Rattle.writing.proofs.WriteSteps.{WrittenSoFar}
 use Rattle.writing.proofs.write_lines.Given as goal
 
 abbrev pub invariant-loop-k : goal.invariant-loop-k
-invariant-loop-k l = WrittenSoFar l.w l.words l.n l.initial.room l.room l.k l.from l.at
-
-abbrev pub decreases-loop-k : goal.decreases-loop-k
-decreases-loop-k l = l.n - l.k
+invariant-loop-k l =
+    goal.iterator-loop-k.can_next l.k-iterator
+    × goal.iterator-loop-k.is_finite l.k-iterator
+    × (chunks_exact_size (enumerate_source l.k-iterator) ≡ l.w)
+    × WrittenSoFar l.w l.words l.initial.room l.room (enumerate_count l.k-iterator) (chunks_exact_rest (enumerate_source l.k-iterator))

@@ -1,25 +1,28 @@
 -- What the parts of writing need and give.
-use Rattle.std.specs.Prelude.{◌≡◌, ℕ, ◌+◌, ◌*◌, ◌/◌, ◌%◌, ◌≤◌, List, [], ◌∷◌, ◌++◌, length, get_or}
+use Rattle.std.specs.Prelude.{ℕ, ◌*◌, ◌/◌, ◌%◌, ◌<◌, ◌≤◌, List, [], ◌∷◌, ◌++◌, length, get_or}
 use Rattle.rules.specs.Lists.{joined}
-use Rattle.rules.specs.Text.{digit, digits_of, line_length}
+use Rattle.rules.specs.Text.{digit, digits_of, line_length, line_of}
 
--- the two digits of each byte
+-- the two digits of a byte, and those of each byte
+unfoldable pub pair_of : ℕ → List ℕ
+pair_of b = digit (b / 16) ∷ digit (b % 16) ∷ []
+
 unfoldable pub pair_table : List ℕ
 pair_table = joined (λ b. digit (b / 16) ∷ digit (b % 16) ∷ []) 256
 
--- the digits of w words from word `from` on, and the line of them
-unfoldable pub digits_from : ℕ → List ℕ → ℕ → List ℕ
-digits_from w ws from = joined (λ i. digits_of 8 (get_or ws (from + i) 0)) w
+-- the digits of words, and the line of them
+unfoldable pub digits_of_words : List ℕ → List ℕ
+digits_of_words ws = joined (λ i. digits_of 8 (get_or ws i 0)) (length ws)
 
-abbrev pub line_from : ℕ → List ℕ → ℕ → List ℕ
-line_from w ws from = digits_from w ws from ++ (10 ∷ [])
+abbrev pub line_of_words : List ℕ → List ℕ
+line_of_words ws = digits_of_words ws ++ (10 ∷ [])
 
 -- the first n lines
 unfoldable pub lines_of : ℕ → List ℕ → ℕ → List ℕ
-lines_of w ws n = joined (λ k. line_from w ws (w * k)) n
+lines_of w ws n = joined (line_of w ws) n
 
--- n frames, and room for their bytes
-pub record CanWrite (w : ℕ) (ws : List ℕ) (n room : ℕ) : Type 0 where
+-- frames of w words, and room for their bytes
+pub record CanWrite (w : ℕ) (ws : List ℕ) (room : ℕ) : Type 0 where
+  pub some : 0 < w
   pub narrow : w ≤ 8
-  pub counted : n ≡ length ws / w
-  pub enough : line_length w * n ≤ room
+  pub enough : line_length w * (length ws / w) ≤ room

@@ -1,25 +1,16 @@
 -- `rule::turns::next_in` meets its contract.
-use mathlib.Core.Path.{refl}
+use mathlib.Core.Path.{◌≡◌}
 use native.Mathlib.Omega.{arith}
-use Rattle.rule.proofs.ReadLaws.{next_found, next_end}
+use borrow.Author.Rules.{rules}
+use Rattle.std.specs.Prelude.{Err}
+use Rattle.rule.proofs.ReadLaws.{next_stuck, next_either}
 use Rattle.rule.proofs.turns.next_in.Goals as goal
 
 pub returns-then-text-at : goal.returns-then-text-at
-returns-then-text-at c = next_end c.if-text-at.true c.next_at_end.ensures
+returns-then-text-at c = next_either _ _ _ _ c.if-text-at.true _ c.next_at_end.ensures
 
-pub token_following-t-requires : goal.token_following-t-requires
-token_following-t-requires c =
-    let if1 = c.if-text-at in
-    let l = if1.false in
-    let n = c.requires.4 in (
-      c.requires.0,
-      c.requires.1,
-      c.requires.2,
-      c.requires.3,
-      record { fits = n.fits; inside = omega arith; no_blank = n.no_blank (omega arith); is = c.class_of-class.ensures },
-    )
-
-pub returns : goal.returns
-returns c =
-    let if1 = c.if-text-at in
-    let l = if1.false in next_found c.token_following-t.ensures (omega arith) refl refl refl refl refl
+pub returns-in_err-t : goal.returns-in_err-t
+returns-in_err-t c =
+    let l = c.if-text-at.false in
+    let told : c.from_residual.result ≡ Err c.in_err-t.field-0.0 = search rules in
+    rw told (next_stuck c.in_err-t.ensures (omega arith))

@@ -1,9 +1,7 @@
 -- `tokens::moves::down` meets its contract.
-use Rattle.tokens.proofs.MoveLaws.{level_none, level_down}
+use mathlib.Core.Path.{◌∙◌}
+use Rattle.tokens.proofs.MoveLaws.{level_less}
 use Rattle.tokens.proofs.moves.down.Goals as goal
 
-pub returns-then-left-eq0 : goal.returns-then-left-eq0
-returns-then-left-eq0 c = level_none _ c.if-left-eq0.true
-
-pub returns-else-left-eq0 : goal.returns-else-left-eq0
-returns-else-left-eq0 c = level_down _ c.if-left-eq0.false
+pub returns : goal.returns
+returns c = c.saturating_sub.ensures ∙ level_less c.args.left

@@ -1,42 +1,31 @@
 -- `tokens::scan::common_length` meets its contract. The loop's invariant: the first `j` bytes are the same.
-use mathlib.Core.Path.{refl}
+use mathlib.Core.Path.{◌≡◌, refl, ◌∙◌}
 use native.Mathlib.Omega.{arith}
 use Rattle.tokens.proofs.Entries.{spelled_few}
 use Rattle.tokens.proofs.CodeLaws.{match_start, match_on, match_long, match_end, match_not}
 use Rattle.tokens.proofs.scan.common_length.Goals as goal
 
 pub loop-j-init : goal.loop-j-init
-loop-j-init c = (match_start _ _ _, omega arith, c.length_of-len.ensures, refl)
+loop-j-init c = match_start _ _ _
 
 pub returns-then-left-j : goal.returns-then-left-j
 returns-then-left-j c =
-    let loop = c.loop-j in
-    match_end _ _ _ loop.j _ loop.invariant.3 loop.invariant.0 c.if-left-j.true
+    match_end _ _ _ c.loop-j.j _ refl c.loop-j.invariant c.if-left-j.true
 
 pub letter_of-requires : goal.letter_of-requires
 letter_of-requires c =
-    let few = spelled_few _ c.requires.2 in (c.requires.0, c.requires.2, omega arith)
+    let few = spelled_few _ c.requires.1 in (c.requires.1, omega arith)
 
 pub returns-then-text-at : goal.returns-then-text-at
 returns-then-text-at c =
-    let loop = c.loop-j in
-    match_not _ _ _ loop.j _ c.requires.2 loop.invariant.0 c.letter_of.ensures c.if-text-at.true
+    match_not _ _ _ c.loop-j.j _ c.requires.1 c.loop-j.invariant c.letter_of.ensures c.if-text-at.true
 
 pub loop-j-preserved : goal.loop-j-preserved
 loop-j-preserved c =
-    let loop = c.loop-j in
-    let loop-test = c.loop-j-test in
-    let if1 = c.if-left-j in
-    let letter-of = c.letter_of in
-    let few = spelled_few _ c.requires.2 in (
-      match_on _ _ _ loop.j _ _ _ c.requires.2 c.requires.1 loop.invariant.2 loop.invariant.3 loop.invariant.0 loop-test.true
-          if1.false letter-of.ensures c.if-text-at.false,
-      omega arith,
-      loop.invariant.2,
-      loop.invariant.3,
-    )
+    match_on _ _ _ c.loop-j.j _ _ _ c.requires.1 c.requires.0 c.length_of-len.ensures refl c.loop-j.invariant c.loop-j-test.true
+    c.if-left-j.false c.letter_of.ensures c.if-text-at.false
 
 pub returns : goal.returns
 returns c =
-    let loop = c.loop-j in
-    match_long _ _ _ loop.j _ c.requires.2 loop.invariant.2 loop.invariant.0 c.loop-j-test.false
+    let e : c.length_of-len.result ≡ c.loop-j.j = omega arith in
+    e ∙ match_long _ _ _ c.loop-j.j _ c.requires.1 c.length_of-len.ensures c.loop-j.invariant c.loop-j-test.false

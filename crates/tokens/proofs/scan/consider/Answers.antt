@@ -7,17 +7,17 @@ use Rattle.tokens.proofs.scan.consider.Goals as goal
 
 pub returns-then-l-eq0 : goal.returns-then-l-eq0
 returns-then-l-eq0 c =
-    record { best = best_nothing _ _ _ _ _ c.requires.2.best c.common_length-l.ensures c.if-l-eq0.true }
+    record { few = c.requires.few; best = best_nothing _ _ _ _ _ c.requires.best c.common_length-l.ensures c.if-l-eq0.true }
 
 pub returns-then-l-best : goal.returns-then-l-best
 returns-then-l-best c =
     let common-length = c.common_length-l in
-    record { best = best_shorter _ _ _ _ _ c.requires.2.best common-length.ensures c.if-l-best.true }
+    record { few = c.requires.few; best = best_shorter _ _ _ _ _ c.requires.best common-length.ensures c.if-l-best.true }
 
 pub returns-then-not-allowed : goal.returns-then-not-allowed
 returns-then-not-allowed c =
     let allowed = c.allowed in
-    record { best = best_refused _ _ _ _ _ c.requires.2.best (sym allowed.ensures ∙ c.if-not-allowed.true) }
+    record { few = c.requires.few; best = best_refused _ _ _ _ _ c.requires.best (sym allowed.ensures ∙ c.if-not-allowed.true) }
 
 pub returns-then-l-length_of : goal.returns-then-l-length_of
 returns-then-l-length_of c =
@@ -25,11 +25,12 @@ returns-then-l-length_of c =
     let if3 = c.if-not-allowed in
     let common-length = c.common_length-l in
     let length-of = c.length_of in
-    let k = c.requires.2.token in
+    let k = c.requires.token in
     let l = spelled_length _ k ∙ sym length-of.ensures in
     let m = sym allowed.ensures ∙ if3.false in
     record {
-      best = best_whole _ _ _ _ _ c.requires.2.best k common-length.ensures l (search rules) (search rules) m
+      few = c.requires.token;
+      best = best_whole _ _ _ _ _ c.requires.best k common-length.ensures l (search rules) (search rules) m
           c.if-l-length_of.true;
     }
 
@@ -40,16 +41,16 @@ returns-then-best-l c =
     let if3 = c.if-not-allowed in
     let common-length = c.common_length-l in
     let if4 = c.if-l-length_of in
-    let k = c.requires.2.token in
+    let k = c.requires.token in
     let l = spelled_length _ k ∙ sym length-of.ensures in
     let m = sym allowed.ensures ∙ if3.false in
-    record { best = best_further _ _ _ _ _ c.requires.2.best k common-length.ensures l c.if-best-l.true m if4.false }
+    record { few = tt; best = best_further _ _ _ _ _ c.requires.best k common-length.ensures l c.if-best-l.true m if4.false }
 
 pub returns : goal.returns
 returns c =
     let length-of = c.length_of in
     let common-length = c.common_length-l in
     let if4 = c.if-l-length_of in
-    let k = c.requires.2.token in
+    let k = c.requires.token in
     let l = spelled_length _ k ∙ sym length-of.ensures in
-    record { best = best_level _ _ _ _ _ c.requires.2.best common-length.ensures l (search rules) if4.false }
+    record { few = c.requires.few; best = best_level _ _ _ _ _ c.requires.best common-length.ensures l (search rules) if4.false }

@@ -1,8 +1,0 @@
--- `tokens::moves::one` meets its contract.
-use borrow.Author.Rules.{rules}
-use mathlib.Core.Path.{refl}
-use Rattle.tokens.proofs.MoveLaws.{opened_one}
-use Rattle.tokens.proofs.moves.one.Goals as goal
-
-pub returns : goal.returns
-returns c = opened_one (search rules) (search rules) refl refl refl

@@ -1,9 +1,0 @@
--- `worked::numbers::lay` ends: the measure is what is left of the line.
-use Rattle.std.proofs.Common.{◌-◌, ◌≤◌, length}
-use Rattle.worked.proofs.numbers.lay.Given as goal
-
-abbrev pub invariant-loop-at : goal.invariant-loop-at
-invariant-loop-at l = l.at ≤ length l.line
-
-abbrev pub decreases-loop-at : goal.decreases-loop-at
-decreases-loop-at l = length l.line - l.at
