@@ -13,16 +13,12 @@ ghost use Rattle.rules.specs.CodeWords.{code_of};
 ghost use Rattle.code.specs.CodeRun.{code_run_refusal, code_end, code_run};
 ghost use Rattle.code.specs.inside.Running.{Admitted, Stands, Stepped};
 
+use instructions::{ASSIGN, GOTO};
 use labels::{Code, Spot};
 use lent::{part, put_back, taken};
 use rules::{End, Halt, Refusal};
 
-// The operations of instructions, as their words have them. The third is the test.
-const ASSIGN: u32 = 1;
-
-const GOTO: u32 = 2;
-
-// One step of Fig. 1, by instruction k.
+// One step of Fig. 1, by instruction k. The last arm is IFNOT: in code that stands no other operation is left, and that is the proof's to show.
 fn step(t: &&[u32], c: &Code, k: usize, store: &mut [i32; 32]) -> Spot
     requires { Stands t.now.now c.now.words.now k store.old }
     ensures { Stepped t.now.now c.now.words.now k store.old result.label result.place store.new }

@@ -12,13 +12,13 @@ ghost use Rattle.instructions.specs.Admission.{admission};
 use lent::part;
 use rules::{Reason, Refusal, WIDTH};
 
-// The operations of instructions, as their words have them. By their numbers: an enum would be made from a word only to be matched once, in
-// `fields_fit`, where any other number is refused.
-const ASSIGN: u32 = 1;
+// The operations of instructions, as their words have them. By their numbers: the check here and the run of code make no instruction, they meet one
+// in a word, and an enum would be made from that word only to be matched once. The compiler, which writes instructions, has an enum.
+pub const ASSIGN: u32 = 1;
 
-const GOTO: u32 = 2;
+pub const GOTO: u32 = 2;
 
-const IFNOT: u32 = 3;
+pub const IFNOT: u32 = 3;
 
 // Whether n is a node whose kind lies from low to high.
 fn is_node(t: &[u32], n: usize, low: u32, high: u32) -> bool
@@ -78,7 +78,7 @@ pub fn check_code(t: &[u32], c: &[u32]) -> Result<(), Refusal>
     Ok(())
 }
 
-// Refusals 1 to 11 and 13, in this order. `fits` tells whether what is lent of stores has the length that the call asks for.
+// Refusals 1 to 11 and 13, in this order. A bool, since the caller knows what has to fit: `fits` tells whether what is lent of stores has the length that the call asks for.
 #[tactic(auto, using(table::proofs::Answer::accepted, crate::proofs::Order::refused_start))]
 pub fn admit(table: &[u32], code: &[u32], start: u32, fits: bool) -> Result<(), Refusal>
     ensures { result ≡ answer (admission table.now code.now start (refuse (not fits) 10 0)) }

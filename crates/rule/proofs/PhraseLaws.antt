@@ -119,13 +119,13 @@ module _ {text : List ℕ} {K : Stack} {Ns : Nodes} {s : Standing} {at : ℕ}
   begin_stuck a h = turn_stuck B (next_stuck a h)
 
   module _ {t : Found} (T : Taken text at K.tags s t) (h : at < length text) where
-    pub begin_performs : Performing K Ns s.left (record { act = t.act; top = t.top })
+    pub begin_performs : Performing K Ns s.left t.place
     begin_performs = let N = next_token T h in turn_performs B N (begin_lowered B N m h)
 
-    pub begin_acts : t.act ≤ 19
+    pub begin_acts : t.place.act ≤ 19
     begin_acts = begin_few B (next_token T h) m h
 
     pub begin_turned : {K₂ : Stack} {Ns₂ : Nodes} {s₂ : Standing}
-        → Moved K Ns s.left (record { act = t.act; top = t.top }) t.number K₂ Ns₂ s₂
+        → Moved K Ns s.left t.place t.number K₂ Ns₂ s₂
         → Turned text at K₂ Ns₂ s₂ t.end
     begin_turned M = let N = next_token T h in turn_moved B N (begin_lowered B N m h) M

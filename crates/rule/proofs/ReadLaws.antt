@@ -151,7 +151,7 @@ module _ {text : List ℕ} {K : Stack} {Ns : Nodes} {s : Standing} {at : ℕ}
 -- ---- what is next
 
 pub next_token : {text st : List ℕ} {at : ℕ} {s : Standing} {t : Found} → Taken text at st s t → at < length text
-    → NextIs text at st s (record { end = t.end; place = record { act = t.act; top = t.top }; number = t.number })
+    → NextIs text at st s (record { end = t.end; place = t.place; number = t.number })
 next_token T h =
     record {
       token = λ z.

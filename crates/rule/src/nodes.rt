@@ -57,7 +57,7 @@ impl Form {
     }
 }
 
-// All nodes: four words each, and how many there are, where 1,025 says that there are too many. Those that no node names yet are the first
+// All nodes: four words each, and how many there are, where 1,025 says that there are too many: a flag beside the count would be asked at each node. Those that no node names yet are the first
 // `depth` of `roots` and `deep`. These are two arrays, and not one of pairs: a node takes three numbers of the one, and its depth three of the other.
 #[derive(Drop)]
 pub(crate) struct Nodes {

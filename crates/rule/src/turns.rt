@@ -146,10 +146,7 @@ fn next_in(text: &[u8], at: usize, stack: &Stack, s: Standing) -> Result<Next, u
     let t = tokens::token_following(text, at, class, stack, s)?;
     Ok(Next {
         end: t.end,
-        place: Place {
-            act: t.act,
-            top: t.top,
-        },
+        place: t.place,
         number: t.number,
     })
 }
@@ -196,15 +193,13 @@ fn before_phrase(
         }
     }
     let t = tokens::token_wanted(text, at, class, &*stack, *s)?;
-    let p = Place {
-        act: t.act,
-        top: t.top,
-    };
-    *s = begin(nodes, stack, s.left, p, t.number);
+    *s = begin(nodes, stack, s.left, t.place, t.number);
     Ok(t.end)
 }
 
 // What stands at `at`, where no blank does, is taken. Answers where it ends.
+// Stack, nodes and shape go one by one: with one struct of the three a rule takes 16 % more instructions, a deep one 11 %, 221,887 and 492,716
+// for 190,847 and 442,235; with the shape beside a struct of the other two 14 % and 4 %.
 pub(crate) fn advance(
     text: &[u8],
     at: usize,

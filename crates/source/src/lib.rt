@@ -31,7 +31,7 @@ fn assign(t: &&[u32], s: &mut [i32; 32], n: usize, credit: u64) -> u64
     credit - 1
 }
 
-// The statement of node n.
+// The statement of node n. By its kind's number, as the evaluators have it.
 #[cycle(branch_exec_repeat)]
 fn exec(t: &&[u32], s: &mut [i32; 32], n: usize, credit: u64) -> u64
     requires { Ready t.now.now n statement × (0 < credit) }
@@ -69,7 +69,7 @@ fn branch(t: &&[u32], s: &mut [i32; 32], n: usize, credit: u64) -> u64
     }
 }
 
-// The while of node n: a turn of the loop is a test, and a pass where it holds.
+// The while of node n: a turn of the loop is a test, and a pass where it holds. The loop counts no index: it goes on while there is credit.
 #[cycle(branch_exec_repeat)]
 fn repeat(t: &&[u32], s: &mut [i32; 32], n: usize, credit: u64) -> u64
     requires { Of t.now.now n Kind.while × (0 < credit) }

@@ -17,6 +17,7 @@ use Rattle.tokens.specs.Stand.{kind_of, sign_kind, relation_kind, truth_kind, fi
 use Rattle.tokens.specs.Arrays.{standing, Located, Numbers}
 use Rattle.tokens.proofs.Steps.{tokens}
 use Rattle.tokens.specs.declared.Found.{Found}
+use Rattle.tokens.specs.declared.moves.Place.{Place}
 use Rattle.tokens.specs.Scan.{carried, Scanned}
 use Rattle.tokens.specs.Promise.{WordNext}
 use Rattle.tokens.specs.Quick.{Held, Quick}
@@ -61,24 +62,23 @@ number_carried {kind} {value} h v = rw (le-ltb kind 27 h) at (number_is {kind = 
 
 -- ---- what is taken
 
-module _ {text : List ℕ} {at : ℕ} {st : List ℕ} {s : Standing} {r : Found} where
-  pub taken_quick : {value : ℕ} → Quick text at r.kind value r.end → NumberIs r.kind value r.number
-      → Located st s r.kind r.act r.top → (r.act ≡ 0 → ⊥) → Taken text at st s r
-  taken_quick q n l a =
-      let z = ne_eqb r.act 0 a in
-      let m : may (standing st s) r.kind ≡ true = sym (may_is st s _ _ _ l) ∙ ap not z in
+module _ {text : List ℕ} {at : ℕ} {st : List ℕ} {s : Standing} {r : Found} {kind value end : ℕ} {p : Place} where
+  pub taken_quick : Quick text at kind value end → NumberIs kind value r.number → (r.kind ≡ kind) × (r.end ≡ end) × (r.place ≡ p)
+      → Located st s kind p.act p.top → (p.act ≡ 0 → ⊥) → Taken text at st s r
+  taken_quick q n (k, e, w) l a =
+      let z = ne_eqb p.act 0 a in
+      let m : may (standing st s) kind ≡ true = sym (may_is st s _ _ _ l) ∙ ap not z in
       let t = q.token in
-      record { token = (t.0, t.1, n.is t.0 t.1 t.2, t.3 (standing st s) m, l, z) }
+      record { token = rw (k, e, w) (t.0, t.1, n.is t.0 t.1 t.2, t.3 (standing st s) m, l, z) }
 
-  pub taken_scanned : {value : ℕ} → Scanned text at (standing st s) r.kind value r.end
-      → NumberIs r.kind value r.number → Located st s r.kind r.act r.top → Taken text at st s r
-  taken_scanned q n l =
+  pub taken_scanned : Scanned text at (standing st s) kind value end → NumberIs kind value r.number
+      → (r.kind ≡ kind) × (r.end ≡ end) × (r.place ≡ p) → Located st s kind p.act p.top → Taken text at st s r
+  taken_scanned q n (k, e, w) l =
       let t = q.token in
       let b = t.3 in
-      let k = t.1 in
-      let m : may (standing st s) r.kind ≡ true = rw (← k) b.allowed in
-      let z : eqb r.act 0 ≡ false = not-true _ (may_is st s _ _ _ l ∙ m) in
-      record { token = (t.0, k, n.is t.0 k t.2, b, l, z) }
+      let m : may (standing st s) kind ≡ true = rw (← t.1) b.allowed in
+      let z : eqb p.act 0 ≡ false = not-true _ (may_is st s _ _ _ l ∙ m) in
+      record { token = rw (k, e, w) (t.0, t.1, n.is t.0 t.1 t.2, b, l, z) }
 
 -- ---- a number or a variable where a factor is wanted
 
@@ -96,11 +96,10 @@ operand_act kind left h l = by left (ltb kind 28) refl
 module _ {text : List ℕ} {at : ℕ} {st : List ℕ} {s : Standing} {r : Found} {kind value end : ℕ} where
   pub operand_taken : s.mode ≡ 4 → Held text at kind value end → 27 ≤ kind → kind < 29
       → {w : Bool} → WordNext text end w → w ≡ false → value < 4294967296
-      → r.kind ≡ kind → r.number ≡ value → r.end ≡ end → r.act ≡ kind - 12 → r.top ≡ s.top
+      → r.number ≡ value → (r.kind ≡ kind) × (r.end ≡ end) × (r.place ≡ record { act = kind - 12; top = s.top })
       → Taken text at st s r
-  operand_taken m u g h w e v k n f a t =
+  operand_taken m u g h w e v n k =
       let z : row_of 4 s.left ≡ row_of s.mode s.left = ap (λ (i : ℕ). row_of i s.left) (sym m) in
       let l : Located st s kind (kind - 12) s.top =
       located_row st s kind (kind - 12) (row_of 4 s.left) (λ q. omega arith) z (operand_act kind s.left g h) in
-      taken_quick {value = value} (rw (k, f) (quick_parted u w e)) (rw (k, n) (number_carried g v)) (rw (k, a, t) l)
-      (λ q. omega arith)
+      taken_quick (quick_parted u w e) (rw n (number_carried g v)) k l (λ q. omega arith)

@@ -23,4 +23,4 @@ pub record AtClass (text : List ℕ) (at class : ℕ) (s : Standing) : Type 0 wh
 -- a token that may follow
 pub record Taken (text : List ℕ) (at : ℕ) (st : List ℕ) (s : Standing) (r : Found) : Type 0 where
   pub token : (t : Token) × (kind_of t ≡ r.kind) × (figure_number (figure t) ≡ r.number)
-      × TokenAt text at (standing st s) t r.end × Located st s r.kind r.act r.top × (eqb r.act 0 ≡ false)
+      × TokenAt text at (standing st s) t r.end × Located st s r.kind r.place.act r.place.top × (eqb r.place.act 0 ≡ false)

@@ -12,11 +12,11 @@ pub mod tables;
 ghost use Rattle.std.specs.Prelude.{◌≡◌, ◌<◌, ◌≤◌, IfSome, MatchResult};
 ghost use Rattle.tokens.specs.Arrays.{standing};
 ghost use Rattle.tokens.specs.Scan.{StuckAt};
-ghost use Rattle.tokens.specs.Taken.{AtClass, Taken};
+ghost use Rattle.tokens.specs.Taken.{AtClass, NumberIs, Taken};
 ghost use Rattle.tokens.specs.Promise.{AtByte};
 ghost use Rattle.tokens.specs.Quick.{ClassAt, Held, Quick};
 
-use crate::moves::{Stack, Standing};
+use crate::moves::{Place, Stack, Standing};
 
 // What is scanned: a token's kind, what it carries, and where it ends. A kind stays a number: it is a column of the tables, and what is left
 // of the class of a byte that is a token by itself.
@@ -33,8 +33,22 @@ pub struct Found {
     pub kind: u32,
     pub number: u32,
     pub end: usize,
-    pub act: u32,
-    pub top: usize,
+    pub place: Place,
+}
+
+impl Lexeme {
+    // The token that is scanned, with its move.
+    fn moving(self, place: Place) -> Found
+        ensures numbered { NumberIs self.kind self.value result.number }
+        ensures kept { (result.kind ≡ self.kind) × (result.end ≡ self.end) × (result.place ≡ place) }
+    {
+        Found {
+            kind: self.kind,
+            number: tables::number_of(self.kind, self.value),
+            end: self.end,
+            place,
+        }
+    }
 }
 
 // Where the fast path finds no token that may follow: every token is tried, and the place is told. Its caller stands in numbers of their own, and
@@ -54,14 +68,7 @@ fn slow_token(
 {
     let s = Standing { mode, left, top };
     let t = scan::scan_token(text, at, stack, s)?;
-    let p = stack.locate(s, t.kind);
-    Ok(Found {
-        kind: t.kind,
-        number: tables::number_of(t.kind, t.value),
-        end: t.end,
-        act: p.act,
-        top: p.top,
-    })
+    Ok(t.moving(stack.locate(s, t.kind)))
 }
 
 // The token at `at`, where the fast path has found `quick`: that one if it may follow. With one copy of it for both
@@ -79,15 +86,9 @@ fn token(
         (StuckAt text.now at (standing stack.now.tags s)) }
 {
     if let Some(t) = quick {
-        let p = stack.locate(s, t.kind);
-        if p.act != 0 {
-            return Ok(Found {
-                kind: t.kind,
-                number: tables::number_of(t.kind, t.value),
-                end: t.end,
-                act: p.act,
-                top: p.top,
-            });
+        let place = stack.locate(s, t.kind);
+        if place.act != 0 {
+            return Ok(t.moving(place));
         }
     }
     // Taken apart: what the fast path finds then stays in registers, and is not laid down where the slow path would.

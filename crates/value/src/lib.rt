@@ -18,6 +18,7 @@ pub fn of_word(w: u32) -> i32
     w.cast_signed()
 }
 
+// `add` and `sub` differ in the operation: one function over it would have to be told which, at each call.
 pub fn add(a: i32, b: i32) -> i32
     ensures { result ≡ sum a b }
 {

@@ -11,7 +11,7 @@ use std::io::Print;
 // Compiles to the first n words of a room, each aaaaaaaa before the call.
 fn compile(rt: &impl Print, table: &[u32], start: u32, n: usize) -> io::Result<()> {
     let mut words = [0xaaaaaaaa; 4100];
-    show::compiled(rt, compiler::compile(table, start, front(&mut words, n)))?;
+    show::answer(rt, compiler::compile(table, start, front(&mut words, n)))?;
     show::words(rt, &words, n)
 }
 
@@ -30,7 +30,7 @@ fn source(rt: &impl Print, table: &[u32], given: [u32; 4]) -> io::Result<()> {
     let [v1, v2, fuel, n] = given;
     let n = n as usize;
     let mut values = store(v1, v2);
-    show::source_run(rt, source::run_source(table, front(&mut values, n), fuel))?;
+    show::answer(rt, source::run_source(table, front(&mut values, n), fuel))?;
     show::variables(rt, &values, n)
 }
 
@@ -39,7 +39,7 @@ fn code(rt: &impl Print, table: &[u32], code: &[u32], given: [u32; 4]) -> io::Re
     let [start, v1, fuel, n] = given;
     let n = n as usize;
     let mut values = store(v1, 0);
-    show::code_run(
+    show::answer(
         rt,
         code::run_code(table, code, start, front(&mut values, n), fuel),
     )?;
@@ -61,7 +61,7 @@ fn depot(rt: &impl Print, table: &[u32], code: &[u32], given: [u32; 4]) -> io::R
     let mut values = [0i32; 16416];
     values[33] = 1;
     let mut words = [0xaaaaaaaa; 4100];
-    show::checked(
+    show::answer(
         rt,
         depot::run_depot(
             table,
@@ -86,7 +86,7 @@ fn read<F: FnOnce(&[u8], &mut [u32]) -> Result<u32, Refusal>>(
     requires { F.IsAlwaysCallable reader }
 {
     let mut words = [0xaaaaaaaa; 4100];
-    show::text(rt, reader(text, front(&mut words, n)))?;
+    show::answer(rt, reader(text, front(&mut words, n)))?;
     show::words(rt, &words, n)
 }
 
@@ -105,7 +105,7 @@ fn read_zeros(rt: &impl Print, n: usize) -> io::Result<()> {
 // Writes to the first n bytes of a room, each a point before the call.
 fn write(rt: &impl Print, words: &[u32], n: usize) -> io::Result<()> {
     let mut bytes = [b'.'; 33792];
-    show::text(rt, writing::write_text(words, front(&mut bytes, n)))?;
+    show::answer(rt, writing::write_text(words, front(&mut bytes, n)))?;
     show::bytes(rt, &bytes, n)
 }
 
@@ -129,7 +129,7 @@ pub(crate) fn call(
     let first = given[0] as usize;
     let second = given[1] as usize;
     match kind {
-        b'k' => show::checked(rt, table::check(table)),
+        b'k' => show::answer(rt, table::check(table)),
         b'j' => compile(rt, table, given[0], second),
         b's' => source(rt, table, given),
         b'g' => code(rt, table, instructions, given),

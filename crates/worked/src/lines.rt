@@ -49,7 +49,8 @@ fn given(behind: &[u8]) -> [u32; 4] {
     [numbers[0], numbers[1], numbers[2], numbers[3]]
 }
 
-// A line, and what stands below it. A call's numbers stand behind the last colon, and the text that it reads below its line.
+// A line, and what stands below it. A call's title stands before the last colon, its numbers behind it, and the text that it reads below its line.
+// A line whose only colon begins it has no title, and is passed over.
 fn line(
     rt: &impl Print,
     line: &[u8],
@@ -57,12 +58,13 @@ fn line(
     words: &mut Words,
     laid: Laid,
 ) -> io::Result<Laid> {
-    let kind = line.first().copied().unwrap_or(0);
-    let colon = line.iter().rposition(|b| *b == b':').unwrap_or(0);
-    if colon == 0 {
+    let Some(&kind) = line.first() else {
+        return Ok(laid);
+    };
+    let Some(colon) = line.iter().rposition(|b| *b == b':') else {
         return lay(rt, kind, line, words, laid);
-    }
-    if kind != b'#' && kind != b' ' {
+    };
+    if 0 < colon && kind != b'#' && kind != b' ' {
         title(rt, kind, part(line, 2, colon))?;
         let words: &[u32] = words;
         let table = part(words, 0, laid.table);

@@ -8,44 +8,56 @@ pub(crate) fn say(rt: &impl Print, text: &[u8]) -> io::Result<()> {
     io::writer(rt).write_all(text)
 }
 
-fn refused(rt: &impl Print, r: Refusal) -> io::Result<()> {
-    println!(rt; "refused {} at {}", r.reason.number(), r.place)
+// What a call has done, as its line tells it.
+pub(crate) trait Told {
+    fn tell(self, rt: &impl Print) -> io::Result<()>;
 }
 
-pub(crate) fn checked(rt: &impl Print, answer: Result<(), Refusal>) -> io::Result<()> {
-    match answer {
-        Ok(()) => println!(rt; "done"),
-        Err(r) => refused(rt, r),
+impl Told for () {
+    fn tell(self, rt: &impl Print) -> io::Result<()> {
+        println!(rt; "done")
     }
 }
 
-pub(crate) fn compiled(rt: &impl Print, answer: Result<Made, Refusal>) -> io::Result<()> {
-    match answer {
-        Ok(m) => println!(rt; "done, instructions {}, end {}", m.instructions, m.end),
-        Err(r) => refused(rt, r),
+impl Told for Made {
+    fn tell(self, rt: &impl Print) -> io::Result<()> {
+        println!(rt;
+            "done, instructions {}, end {}",
+            self.instructions, self.end
+        )
     }
 }
 
-pub(crate) fn source_run(rt: &impl Print, answer: Result<End<u32>, Refusal>) -> io::Result<()> {
-    match answer {
-        Ok(End::Finished(steps)) => println!(rt; "finished, steps {steps}"),
-        Ok(End::OutOfFuel(steps)) => println!(rt; "out of fuel, steps {steps}"),
-        Err(r) => refused(rt, r),
+impl Told for End<u32> {
+    fn tell(self, rt: &impl Print) -> io::Result<()> {
+        match self {
+            End::Finished(steps) => println!(rt; "finished, steps {steps}"),
+            End::OutOfFuel(steps) => println!(rt; "out of fuel, steps {steps}"),
+        }
     }
 }
 
-pub(crate) fn code_run(rt: &impl Print, answer: Result<End<Halt>, Refusal>) -> io::Result<()> {
-    match answer {
-        Ok(End::Finished(h)) => println!(rt; "finished at {}, steps {}", h.label, h.steps),
-        Ok(End::OutOfFuel(h)) => println!(rt; "out of fuel at {}, steps {}", h.label, h.steps),
-        Err(r) => refused(rt, r),
+impl Told for End<Halt> {
+    fn tell(self, rt: &impl Print) -> io::Result<()> {
+        match self {
+            End::Finished(h) => println!(rt; "finished at {}, steps {}", h.label, h.steps),
+            End::OutOfFuel(h) => println!(rt; "out of fuel at {}, steps {}", h.label, h.steps),
+        }
     }
 }
 
-pub(crate) fn text(rt: &impl Print, answer: Result<u32, Refusal>) -> io::Result<()> {
+// How many words or bytes were written.
+impl Told for u32 {
+    fn tell(self, rt: &impl Print) -> io::Result<()> {
+        println!(rt; "done, {self}")
+    }
+}
+
+// The line of an answer. A refusal is told alike by all calls.
+pub(crate) fn answer<T: Told>(rt: &impl Print, answer: Result<T, Refusal>) -> io::Result<()> {
     match answer {
-        Ok(n) => println!(rt; "done, {n}"),
-        Err(r) => refused(rt, r),
+        Ok(done) => done.tell(rt),
+        Err(r) => println!(rt; "refused {} at {}", r.reason.number(), r.place),
     }
 }
 

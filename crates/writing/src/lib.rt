@@ -101,7 +101,8 @@ fn write_frames(words: &[u32], w: usize, room: &mut [u8]) -> Result<u32, Refusal
     Ok(long as u32)
 }
 
-// Writes words as text of four words a line. Answers how many bytes it wrote to room.
+// Writes words as text of four words a line. Answers how many bytes it wrote to room. This and `write_pairs` are two names over one function: docs
+// know them apart, and C has this one alone.
 pub fn write_text(words: &[u32], room: &mut [u8]) -> Result<u32, Refusal>
     ensures { ended result room.new ≡ writing 4 words.now room.old }
 {

@@ -15,8 +15,8 @@ pub make-requires : goal.make-requires
 make-requires c =
     let l = c.if-text-at.false in
     let O = c.in-Some.ensures in
-    let T = operand_taken {r = record { kind = _; number = _; end = _; act = _; top = _ }} c.if-s-eq4.true O.0 O.1 O.2 c.word_goes_on.ensures
-    c.if-not-word_goes_on.true (search rules) refl refl refl refl refl in
+    let T = operand_taken {r = record { kind = _; number = _; end = _; place = _ }} c.if-s-eq4.true O.0 O.1 O.2 c.word_goes_on.ensures
+    c.if-not-word_goes_on.true (search rules) refl (refl, refl, refl) in
     operand_makes O.1 O.2 (begin_performs c.requires.0 c.requires.1 T (omega arith)).making
 
 pub returns-then-not-word_goes_on : goal.returns-then-not-word_goes_on
@@ -24,8 +24,8 @@ returns-then-not-word_goes_on c =
     let l = c.if-text-at.false in
     let O = c.in-Some.ensures in
     begin_turned c.requires.0 c.requires.1
-    (operand_taken {r = record { kind = _; number = _; end = _; act = _; top = _ }} c.if-s-eq4.true O.0 O.1 O.2 c.word_goes_on.ensures
-    c.if-not-word_goes_on.true (search rules) refl refl refl refl refl) (omega arith)
+    (operand_taken {r = record { kind = _; number = _; end = _; place = _ }} c.if-s-eq4.true O.0 O.1 O.2 c.word_goes_on.ensures
+    c.if-not-word_goes_on.true (search rules) refl (refl, refl, refl)) (omega arith)
     (moved (operand_made O.1 O.2 c.make.ensures) (operand_entered O.1 O.2 c.stay.ensures))
 
 pub token_wanted-requires : goal.token_wanted-requires
