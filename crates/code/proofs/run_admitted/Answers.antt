@@ -5,7 +5,6 @@ use Rattle.rules.proofs.EndedLaws.{ends_unrefused}
 use Rattle.code.specs.CodeRun.{code_run}
 use Rattle.code.specs.inside.Running.{Admitted}
 use Rattle.code.proofs.Checks.{admitted}
-use Rattle.code.proofs.Along.{left_length}
 use Rattle.code.proofs.run_admitted.Goals as goal
 
 pub taken-values-requires : goal.taken-values-requires
@@ -15,11 +14,6 @@ pub run_from-ran-requires : goal.run_from-ran-requires
 run_from-ran-requires c =
     let s : Admitted c.args.table.now c.args.code.now c.args.store.now = admitted _ _ _ _ c.requires in
     record { table = s.table; code = s.code; store = ap length c.taken-values.ensures ∙ s.store }
-
-pub put_back-requires : goal.put_back-requires
-put_back-requires c =
-    let s : Admitted c.args.table.now c.args.code.now c.args.store.now = admitted _ _ _ _ c.requires in
-    (s.store, left_length _ _ _ _ _ c.run_from-ran.ensures ∙ ap length c.taken-values.ensures ∙ s.store)
 
 pub returns : goal.returns
 unfolding code_run

@@ -2,26 +2,14 @@
 -- it stands. The measure is the fuel that is left.
 use native.Mathlib.Omega.{arith}
 use Rattle.rules.proofs.FetchLaws.{code_facts}
-use Rattle.code.proofs.Along.{begun, borne, stands, onward, at_finish, without_fuel}
+use Rattle.code.proofs.Along.{borne, onward, at_finish, without_fuel}
 use Rattle.code.proofs.run_from.Goals as goal
 
 pub invariant_of-code : goal.invariant_of-code
 invariant_of-code c = record { rising = (code_facts _ _ c.requires.code).rising }
 
-pub loop-at-init : goal.loop-at-init
-loop-at-init c = rw c.jump-at.ensures.0 (begun c.requires c.jump-at.ensures.1)
-
 pub returns-then-steps-fuel : goal.returns-then-steps-fuel
 returns-then-steps-fuel c = without_fuel c.loop-at.invariant (borne c.loop-at.invariant c.in-Some.is) (omega (arith, c.loop-at.invariant.within))
-
-pub step-at-requires : goal.step-at-requires
-step-at-requires c = stands c.loop-at.invariant (borne c.loop-at.invariant c.in-Some.is)
-
-pub overflow_add-steps : goal.overflow_add-steps
-overflow_add-steps c = omega arith
-
-pub loop-at-smaller : goal.loop-at-smaller
-loop-at-smaller c = omega arith
 
 pub loop-at-preserved : goal.loop-at-preserved
 loop-at-preserved c =

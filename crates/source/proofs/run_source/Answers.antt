@@ -1,13 +1,13 @@
 -- `run_source` meets its contract: the table's refusals, then the store's, then the run of the root's statement on a copy of the store,
 -- which is put back at the end.
-use mathlib.Core.Path.{◌≡◌, ap, sym, ◌∙◌}
+use mathlib.Core.Path.{◌≡◌, sym}
 use native.Mathlib.Omega.{arith}
 use lib.ListN.{length}
 use borrow.Author.Rules.{rules}
 use Rattle.std.specs.Prelude.{Err}
 use Rattle.rules.proofs.TableLaws.{accepted_facts}
 use Rattle.table.proofs.Answer.{accepted, refused}
-use Rattle.source.proofs.Statements.{ran_length, left_most}
+use Rattle.source.proofs.Statements.{left_most}
 use Rattle.source.proofs.Endings.{table_refused, store_refused, source_spent, source_finished}
 use Rattle.source.proofs.run_source.Goals as goal
 
@@ -31,11 +31,6 @@ exec-left-requires c =
     let passed = accepted c.args.table.now c.check.ensures c.in_ok-check.was in
     let facts = accepted_facts c.args.table.now passed in
     (record { accepted = passed; inside = omega (arith, facts.some_nodes); class = facts.root_statement }, omega arith)
-
-pub put_back-requires : goal.put_back-requires
-put_back-requires c =
-    let values : length c.args.store.now ≡ 32 = omega arith in
-    (values, ran_length _ c.exec-left.ensures ∙ ap length c.taken-values.ensures ∙ values)
 
 pub returns-then-left-eq0 : goal.returns-then-left-eq0
 returns-then-left-eq0 c =
