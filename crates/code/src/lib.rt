@@ -44,6 +44,7 @@ fn step(t: &&[u32], c: &Code, k: usize, store: &mut [i32; 32]) -> Spot
 }
 
 // The run from a label: one unit of fuel a turn, the finish tested before the fuel.
+#[tactic(auto, using(crate::proofs::Along::at_finish))]
 fn run_from(t: &&[u32], c: &[u32], start: u32, store: &mut [i32; 32], fuel: u32) -> End<Halt>
     requires { Admitted t.now.now c.now store.old }
     ensures { ended (Ok result) store.new ≡ code_end fuel (run (meaning t.now.now) (code_of c.now) fuel start store.old) }

@@ -16,7 +16,7 @@ pub list_determined : (κs : Lfts 2) (a : Dens κs ps) (x y : ℕ) (s t : AtExit
 list_determined κs a x y s t p q = (p.count ∙ sym q.count, p.left ∙ sym q.left)
 
 pub refused_determined : (κs : Lfts 1) (a : Dens κs refused-kinds.ps) (x y : ℕ) (s t : AtExit (ended_of 1 refused-kinds.ps refused-kinds.r) κs)
-    → refused-reads.Post κs a x s → refused-reads.Post κs a y t → (x ≡ y) × (s.1.0.now ≡ t.1.0.now)
+    → refused-reads.Post κs a x s → refused-reads.Post κs a y t → (x ≡ y) × (s.1.1.0.now ≡ t.1.1.0.now)
 refused_determined κs a x y s t p q = (p.count ∙ sym q.count, p.left ∙ sym q.left)
 
 pub list_frames_determined : (κs : Lfts 2) (a : Dens κs frames-kinds.ps) (x y : ℕ) (s t : AtExit (ended_of 2 frames-kinds.ps frames-kinds.r) κs)

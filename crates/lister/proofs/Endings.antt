@@ -6,7 +6,7 @@ use Prim.Native.Nat.{ℕ, ◌+◌, ◌*◌, ◌/◌, ◌<◌, ◌≤◌}
 use native.Mathlib.Nat.{mul-div_cancel_left, le_refl}
 use native.Mathlib.Omega.{arith}
 use lib.ListN.{length, take}
-use lib.Seq.{sets, length-sets, length-take-le}
+use lib.Seq.{sets, length-sets, length-take-le, take-length}
 use Rattle.rules.specs.Compilation.{size, compile}
 use Rattle.rules.specs.CodeWords.{width, words_of}
 use Rattle.rules.specs.Table.{program}
@@ -41,13 +41,6 @@ text_listed w k ws room after x p e few enough wrote =
     let left : after ≡ sets room 0 (text_of w ws) = after_is (wrote ∙ sym is) in
     record { count = sym (length_text_of w ws k e p); left = left; within = rw (left, length-sets room 0 (text_of w ws)) enough }
 
--- whole frames have room
-pub frames_listed : (ws room after : List ℕ) (x : Answer ℕ) → Frames ws → length room ≡ 33792 → ended x after ≡ writing 4 ws room
-    → Listed (text_of 4 ws) room after (33 * (length ws / 4))
-frames_listed ws room after x f long wrote =
-    let lines : length ws / 4 ≡ f.frames = rw f.whole (mul-div_cancel_left f.frames (omega arith)) in
-    rw lines (text_listed 4 f.frames ws room after x (omega arith) f.whole f.few (omega (arith, f.few)) wrote)
-
 -- the first k instructions of a row of words, of which the width of code and that of `write_text`, four words a line, are taken as one
 pub code_listed : (j k : ℕ) (ws room after : List ℕ) (x : Answer ℕ) → j ≡ width * k → width * k ≤ length ws → k ≤ 1024 → length room ≡ 33792
     → ended x after ≡ writing 4 (take j ws) room → Listed (text_of width (take (width * k) ws)) room after (line_length width * k)
@@ -55,11 +48,30 @@ code_listed j k ws room after x e inside few long wrote =
     text_listed width k (take (width * k) ws) room after x (omega arith) (length-take-le (width * k) ws inside) few (omega arith)
     (rw e at wrote)
 
-pub line_listed : (r : Refusal) (room after : List ℕ) (x : Answer ℕ) → 17 ≤ length room
-    → ended x after ≡ writing 2 (number_of r.reason ∷ r.place ∷ []) room → Listed (refusal_line r) room after 17
+-- whole frames have room, and are as many words as so many instructions
+pub frames_listed : (ws room after : List ℕ) (x : Answer ℕ) → Frames ws → length room ≡ 33792 → ended x after ≡ writing 4 ws room
+    → Listed (text_of 4 ws) room after (33 * (length ws / 4))
+frames_listed ws room after x f long wrote =
+    let lines : length ws / 4 ≡ f.frames = rw f.whole (mul-div_cancel_left f.frames (omega arith)) in
+    let all = take-length ws in
+    let listed = code_listed (length ws) f.frames ws room after x f.whole (omega (arith, f.whole)) f.few long (rw all wrote) in
+    rw lines (rw (← f.whole, all) at listed)
+
+-- of a refusal whatever its number
+pub line_listed : (number place : ℕ) (room after : List ℕ) (x : Answer ℕ) → 17 ≤ length room
+    → ended x after ≡ writing 2 (number ∷ place ∷ []) room → Listed (text_of 2 (number ∷ place ∷ [])) room after 17
+line_listed number place room after x enough wrote =
+    text_listed 2 1 (number ∷ place ∷ []) room after x (omega arith) refl (omega arith) enough wrote
+
+-- by the number that was told
+pub number_told : {told number : ℕ} (place : ℕ) {r : ℕ} {out out' : List ℕ} → told ≡ number
+    → Listed (text_of 2 (told ∷ place ∷ [])) out out' r → Listed (text_of 2 (number ∷ place ∷ [])) out out' r
+number_told place is listed = rw is at listed
+
+pub refusal_listed : (q : Refusal) {told r : ℕ} {out out' : List ℕ} → told ≡ number_of q.reason
+    → Listed (text_of 2 (told ∷ q.place ∷ [])) out out' r → Listed (refusal_line q) out out' r
 unfolding refusal_line
-line_listed r room after x enough wrote =
-    text_listed 2 1 (number_of r.reason ∷ r.place ∷ []) room after x (omega arith) refl (omega arith) enough wrote
+refusal_listed q is listed = number_told q.place is listed
 
 -- ---- compiling
 
@@ -129,15 +141,15 @@ module _ (start : ℕ) (t code after : List ℕ) (x : Answer Made) (long : lengt
       let given = not_compiled t code after start long q (rw e at call) in
       rw (compiling_room t 1 (omega arith) ∙ sym (compiling_room t start low) ∙ given) listed
 
--- an instruction is a frame
-pub code_frames : {t after : List ℕ} {start k : ℕ} → HasCompiled t start k after → length after ≡ width * 1024 → Frames (take (width * k) after)
-code_frames {after = after} {k = k} has long =
-    record { frames = k; whole = length-take-le (width * k) after (omega (arith, has.few)); few = has.few }
+-- an instruction is a frame; n is the words of all
+pub code_frames : {t after : List ℕ} {start k n : ℕ} → HasCompiled t start k after → length after ≡ width * 1024 → n ≡ width * k → Frames (take n after)
+code_frames {after = after} {k = k} has long all =
+    rw all (record { frames = k; whole = length-take-le (width * k) after (omega (arith, has.few)); few = has.few })
 
-pub compiled_listed : {t after out out' : List ℕ} {k r : ℕ} → HasCompiled t 1 k after
-    → Listed (text_of width (take (width * k) after)) out out' r → Listed (listing_of t) out out' r
+pub compiled_listed : {t after out out' : List ℕ} {k n r : ℕ} → HasCompiled t 1 k after → n ≡ width * k
+    → Listed (text_of width (take n after)) out out' r → Listed (listing_of t) out out' r
 unfolding listing_of line_or
-compiled_listed has listed = rw (has.not_refused, ← has.front) listed
+compiled_listed has all listed = rw (has.not_refused, ← has.front, ← all) listed
 
 -- ---- the listing of a text, by what `read_text` answered
 

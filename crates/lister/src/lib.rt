@@ -2,19 +2,20 @@
 // A word becomes a place by `as`, and a place a word: there is no `From` between `u32` and `usize`.
 #![tactic(auto)]
 
+ghost use Rattle.std.specs.Prelude.{[], ◌∷◌};
 ghost use Rattle.rules.specs.Text.{text_of};
-ghost use Rattle.lister.specs.Listing.{refusal_line, listing_of, listing, Frames, Listed};
+ghost use Rattle.lister.specs.Listing.{listing_of, listing, Frames, Listed};
 
-use rules::{Refusal, WIDTH};
+use rules::WIDTH;
 
 // The bytes of a line: eight digits a word, and the newline.
 const LINE: usize = 8 * WIDTH + 1;
 
-// Writes the line of a refusal to the front of out. Answers how many bytes it is.
-pub fn refused(r: Refusal, out: &mut [u8; 33792]) -> usize
-    ensures { Listed (refusal_line r) out.old out.new result }
+// Writes the line of a refusal to the front of out, by its number, whatever that is, and its place. Answers how many bytes it is.
+pub fn refused(number: u32, place: u32, out: &mut [u8; 33792]) -> usize
+    ensures { Listed (text_of 2 (number ∷ place ∷ [])) out.old out.new result }
 {
-    let pair = [r.reason.number(), r.place];
+    let pair = [number, place];
     let _ = writing::write_pairs(&pair, out);
     17
 }
@@ -35,7 +36,7 @@ fn list_table(words: &[u32], out: &mut [u8; 33792]) -> usize
     let mut code = [0u32; WIDTH * 1024];
     match compiler::compile(words, 1, &mut code) {
         Ok(made) => list_frames(&code[..WIDTH * (made.instructions as usize)], out),
-        Err(refusal) => refused(refusal, out),
+        Err(refusal) => refused(refusal.reason.number(), refusal.place, out),
     }
 }
 
@@ -46,6 +47,6 @@ pub fn list(input: &[u8], out: &mut [u8; 33792]) -> usize
     let mut words = [0u32; 4096];
     match reading::read_text(input, &mut words) {
         Ok(n) => list_table(&words[..n as usize], out),
-        Err(refusal) => refused(refusal, out),
+        Err(refusal) => refused(refusal.reason.number(), refusal.place, out),
     }
 }

@@ -16,7 +16,7 @@ use Rattle.rules.specs.Table.{word_fault, node_fault, once_fault, table_refusal}
 use Rattle.rules.specs.CodeWords.{part, instructions, fields_fit, rises, code_fault, code_refusal}
 use Rattle.rules.specs.declared.Reason.{Reason}
 use Rattle.rules.specs.declared.Refusal.{Refusal}
-use Rattle.rules.proofs.ListLaws.{every_true, or_else_some, refuse_lowest_some}
+use Rattle.rules.proofs.ListLaws.{FaultAt, every_true, or_else_some, refuse_lowest_some}
 
 pub reason_back : (r : Reason) → reason_of (number_of r) ≡ r
 reason_back Reason.TableLength = refl
@@ -69,6 +69,10 @@ number_back k is =
     let whole : suc (k - 1) ≡ k = omega arith in
     rw whole at back
 
+-- a refusal that was found bears the number that was found
+pub number_is : {fault : ℕ → ℕ} {n : ℕ} {r : Refusal} → FaultAt fault n r → IsNumber (fault r.place) → number_of r.reason ≡ fault r.place
+number_is {fault = fault} {r = r} found is = let reason = found.reason_is in rw reason (number_back (fault r.place) is)
+
 -- every refusal that may be given has a number of this kind
 pub record Numbered (P : ℕ → Type 0) (o : Option Refusal) : Type 0 where
   pub number : (r : Refusal) → o ≡ some r → P (number_of r.reason)
@@ -85,9 +89,8 @@ module _ {P : ℕ → Type 0} where
     number = λ r e.
         let found = refuse_lowest_some fault n r e in
         let q = p r.place found.is_fault in
-        let reason = found.reason_is in
-        let back = number_back (fault r.place) q.0 in
-        rw (reason, back) q.1;
+        let is = number_is found q.0 in
+        rw is q.1;
   }
 
   pub or_else_numbered : {a b : Option Refusal} → Numbered P a → Numbered P b → Numbered P (a or_else b)

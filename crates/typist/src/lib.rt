@@ -12,6 +12,6 @@ pub fn write_table(text: &[u8], out: &mut [u8; 33792]) -> usize
     let mut words = [0u32; 4096];
     match rule::read_rule(text, &mut words) {
         Ok(n) => lister::list_frames(&words[..n as usize], out),
-        Err(refusal) => lister::refused(refusal, out),
+        Err(refusal) => lister::refused(refusal.reason.number(), refusal.place, out),
     }
 }

@@ -44,16 +44,26 @@ pub fn mul(a: i32, b: i32) -> i32
     of_word(wrapping_mul(to_word(a), to_word(b)))
 }
 
-// By a negative divisor. The machine drops a fraction towards zero. Between unlike signs that is upwards: there the dividend goes one nearer to zero
-// first, and the quotient one down. -2147483648 by -1 has no machine quotient, and wraps.
+// The machine drops a fraction towards zero. Between unlike signs that is upwards: there the dividend goes one nearer to zero first, and the quotient
+// one down. By hand: in a call of `div_euclid` or `wrapping_div` there is no place for the slips that the edits of these two functions make.
+fn by_positive(a: i32, b: i32) -> i32
+    requires { pos 0 <ℤ b }
+    ensures { result ≡ quotient a b }
+{
+    if a < 0 { (a + 1) / b - 1 } else { a / b }
+}
+
+// -2147483648 by -1 has no machine quotient, so the divisor -1 negates.
 fn by_negative(a: i32, b: i32) -> i32
     requires { b <ℤ pos 0 }
     ensures { result ≡ quotient a b }
 {
     if a > 0 {
         (a - 1) / b - 1
+    } else if b == -1 {
+        sub(0, a)
     } else {
-        a.wrapping_div(b)
+        a / b
     }
 }
 
@@ -62,7 +72,7 @@ pub fn div(a: i32, b: i32) -> i32
     ensures { result ≡ quotient a b }
 {
     if b > 0 {
-        a.div_euclid(b)
+        by_positive(a, b)
     } else if b < 0 {
         by_negative(a, b)
     } else {

