@@ -1,6 +1,7 @@
 -- `write_table` reads the rule, and writes the text of its table or the line of its refusal.
-use Rattle.std.proofs.Common.{refl, sym, arith}
+use Rattle.std.proofs.Common.{take, lit≤, refl, sym, arith}
 use Rattle.std.proofs.Math.Seq.{length-take-le}
+use Rattle.rules.proofs.TextLaws.{length_text_of}
 use Rattle.lister.proofs.Endings.{refusal_listed}
 use Rattle.typist.proofs.Endings.{table_read, unread_written, table_written}
 use Rattle.typist.proofs.write_table.Goals as goal
@@ -26,5 +27,7 @@ returns-in-Err c =
 
 pub returns-in-Ok : goal.returns-in-Ok
 returns-in-Ok c =
+    let frames = (table_read _ _ _ _ refl c.read_rule.ensures _ c.in-Ok.is).frames in
+    let lines = length_text_of 4 (take c.in-Ok.n c.read_rule.new.room) frames.frames frames.whole (lit≤ tt) in
     let listed = table_written _ _ _ _ refl c.read_rule.ensures _ c.in-Ok.is c.list_frames.ensures in
-    record { count = omega (arith, listed.count); left = listed.left; within = omega (arith, listed.within) }
+    record { count = omega (arith, listed.count, c.list_frames.ensures.count, lines); left = listed.left; within = omega (arith, listed.within) }
