@@ -1,7 +1,6 @@
 -- `list_table` compiles the table, and writes the text of its code or the line of its refusal.
-use Rattle.std.proofs.Common.{◌*◌, refl, sym, arith}
+use Rattle.std.proofs.Common.{refl, sym, arith}
 use Rattle.std.proofs.Math.Seq.{length-take-le}
-use Rattle.rules.specs.CodeWords.{width}
 use Rattle.lister.proofs.Endings.{compiled, code_frames, compiled_listed, refused_listed, refusal_listed}
 use Rattle.lister.proofs.list_table.Goals as goal
 
