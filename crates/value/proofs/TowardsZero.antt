@@ -1,46 +1,70 @@
--- The machine's own quotient drops its fraction towards zero. Between like signs that is down; between unlike signs it is up, and the quotient
--- rounded down is one less than the machine's quotient of the dividend one nearer to zero.
-use Rattle.std.proofs.Common.{◌≡◌, ℕ, zero, suc, ◌+◌, ◌-◌, ◌/◌, ◌<◌, ◌≤◌, Bool, true, false, cond, ltb, ℤ, pos, negsuc, ◌+ℤ◌, neg_ℤ, nat_abs, ◌≤ℤ◌, ◌<ℤ◌, sym, refl, ap, ◌∙◌, subst, zero-le, le_trans, le_of_suc-le-suc, not-suc-le-zero, lt_of_le_of_lt, zero-lt-suc, div-le_self, arith, ltb→lt, leb→le, w32, of_z, ltb-false, ltb-true, le-ltb}
+-- The library's quotients beside the one rounded down. `div_euclid` rounds down by a positive divisor. The machine drops a fraction towards zero: between
+-- like signs that is down; between unlike signs it is up, and the quotient rounded down is one less than the machine's quotient of the dividend one
+-- nearer to zero.
+use Rattle.std.proofs.Common.{◌≡◌, ℕ, zero, suc, ◌+◌, ◌-◌, ◌/◌, ◌<◌, ◌≤◌, Bool, true, false, cond, ltb, ℤ, pos, negsuc, ◌+ℤ◌, neg_ℤ, nat_abs, ◌≤ℤ◌, ◌<ℤ◌, sym, refl, ap, ◌∙◌, subst, zero-le, le_trans, le_of_suc-le-suc, not-suc-le-zero, lt_of_le_of_lt, zero-lt-suc, div-le_self, arith, ltb→lt, leb→le, w32, of_z, le-ltb}
 use native.Mathlib.Nat.{div-lt_self, zero-div, le-suc}
-use lib.IntN.{pred_ℤ, +ℤ_one, -ℤ_one}
-use lib.Signed.{mag, quot_z, <ℤ_irrefl}
-use Rattle.rules.specs.Value.{rounded_down, quotient}
+use lib.IntN.{pred_ℤ, -ℤ_one}
+use lib.Signed.{mag, quot_z, <ℤ_irrefl, lt_z}
+use Rattle.std.specs.Int.{int_div_euclid}
+use Rattle.rules.specs.Value.{word, value, wrap, rounded_down, quotient}
 use Rattle.rules.proofs.ValueLaws.{InRange}
 use Rattle.rules.proofs.DivisionLaws.{quotient_within}
-use Rattle.value.proofs.Machine.{back, read_back, not_zero}
+use Rattle.value.proofs.Machine.{back, read_back, not_zero, is_less_lem, not_less, zero_fits}
 
 -- ---- the two quotients
 
--- between like signs
-like_positive : (a b : ℤ) → pos 0 ≤ℤ a → pos 0 <ℤ b → rounded_down a b ≡ quot_z a b
-like_positive (pos m) (pos zero) h k = absurd k.lt
-like_positive (pos m) (pos (suc n)) h k = refl
-like_positive (pos m) (negsuc n) h k = absurd k.lt
-like_positive (negsuc m) b h k = absurd h.le
+-- by a positive divisor
+euclid : (a b : ℤ) → pos 0 <ℤ b → int_div_euclid a b ≡ rounded_down a b
+euclid a (pos zero) p = absurd p.lt
+euclid (pos m) (pos (suc n)) p = refl
+euclid (negsuc m) (pos (suc n)) p = refl
+euclid a (negsuc n) p = absurd p.lt
 
+pub by_positive : (a b q : ℤ) → InRange a → InRange b → InRange q → pos 0 <ℤ b → q ≡ int_div_euclid (back w32 a) (back w32 b) → back w32 q ≡ quotient a b
+by_positive a b q f g h p e =
+    let same : q ≡ int_div_euclid a b = cc (read_back a f.sfits, read_back b g.sfits) in
+    read_back q h.sfits ∙ sym (quotient_within a b (sym (same ∙ euclid a b p)) h)
+
+-- between like signs
 like_negative : (a b : ℤ) → a ≤ℤ pos 0 → b <ℤ pos 0 → rounded_down a b ≡ quot_z a b
 like_negative a (pos n) h k = absurd (not-suc-le-zero (ltb→lt n zero k.lt))
 like_negative (pos zero) (negsuc n) h k = rw zero-div
 like_negative (pos (suc m)) (negsuc n) h k = absurd (not-suc-le-zero (leb→le (suc m) zero h.le))
 like_negative (negsuc m) (negsuc n) h k = refl
 
+-- its word, also where it is 2 ^ 31
+like_word : (a b : ℤ) → InRange a → a ≤ℤ pos 0 → b <ℤ pos 0 → of_z w32 (quot_z a b) ≡ word (quot_z a b)
+like_word a (pos n) f h k = absurd (not-suc-le-zero (ltb→lt n zero k.lt))
+like_word (pos zero) (negsuc n) f h k = rw zero-div
+like_word (pos (suc m)) (negsuc n) f h k = absurd (not-suc-le-zero (leb→le (suc m) zero h.le))
+like_word (negsuc m) (negsuc n) f h k = let small : m < 2147483648 = f.sfits in omega (arith, div-le_self (suc m) (suc n))
+
+pub like_quotient : (a b : ℤ) → InRange a → InRange b → a ≤ℤ pos 0 → b <ℤ pos 0 → back w32 (quot_z (back w32 a) (back w32 b)) ≡ quotient a b
+unfolding quotient wrap
+like_quotient a b f g h k =
+    rw (read_back a f.sfits, read_back b g.sfits, like_negative a b h k)
+    (ap value (like_word a b f h k))
+
 -- between unlike signs
 lowered : (k : ℕ) → pred_ℤ (neg_ℤ (pos k)) ≡ negsuc k
 lowered zero = refl
 lowered (suc k) = refl
-
-pub unlike_positive : (a b : ℤ) → a <ℤ pos 0 → pos 0 <ℤ b → rounded_down a b ≡ quot_z (a +ℤ pos 1) b +ℤ negsuc 0
-unlike_positive (pos m) b h k = absurd (not-suc-le-zero (ltb→lt m zero h.lt))
-unlike_positive (negsuc m) (pos zero) h k = absurd k.lt
-unlike_positive (negsuc m) (negsuc n) h k = absurd k.lt
-unlike_positive (negsuc zero) (pos (suc n)) h k = rw zero-div
-unlike_positive (negsuc (suc m)) (pos (suc n)) h k = rw (+ℤ_one, -ℤ_one) (sym (lowered (suc m / suc n)))
 
 pub unlike_negative : (a b : ℤ) → pos 0 <ℤ a → b <ℤ pos 0 → rounded_down a b ≡ quot_z (a +ℤ negsuc 0) b +ℤ negsuc 0
 unlike_negative a (pos n) h k = absurd (not-suc-le-zero (ltb→lt n zero k.lt))
 unlike_negative (pos zero) (negsuc n) h k = absurd h.lt
 unlike_negative (negsuc m) (negsuc n) h k = absurd h.lt
 unlike_negative (pos (suc m)) (negsuc n) h k = rw (-ℤ_one, -ℤ_one) (sym (lowered (m / suc n)))
+
+-- ---- the answers of the library's calls, by the test that the code has made: the check finds them so, whatever stands beside the call
+
+pub div_euclid_is : (a b q : ℤ) → InRange a → InRange b → mag q < 2147483648 → lt_z (back w32 (pos 0)) (back w32 b) ≡ true
+    → q ≡ int_div_euclid (back w32 a) (back w32 b) → back w32 q ≡ quotient a b
+div_euclid_is a b q f g h t e = by_positive a b q f g (record { sfits = h }) (is_less_lem (pos 0) b zero_fits g t) e
+
+pub wrapping_div_is : (a b q : ℤ) → InRange a → InRange b → mag q < 2147483648 → lt_z (back w32 (pos 0)) (back w32 a) ≡ false → b <ℤ pos 0
+    → q ≡ back w32 (quot_z (back w32 a) (back w32 b)) → back w32 q ≡ quotient a b
+wrapping_div_is a b q f g h t k e = read_back q h ∙ e ∙ like_quotient a b f g (not_less (pos 0) a zero_fits f t) k
 
 -- ---- how far the machine's quotient lies from zero: no further than its dividend, but that by -1 it may leave the range
 
@@ -58,36 +82,8 @@ size (negsuc a) (pos b) m = minus_size (suc a / b) (div-le_self (suc a) b)
 size (negsuc a) (negsuc zero) m = absurd (m refl)
 size (negsuc a) (negsuc (suc b)) m = le_of_suc-le-suc (div-lt_self (zero-lt-suc a) (omega arith))
 
--- ---- "a / b" on what is read back
-
-by_positive : {b : ℤ} → pos 0 <ℤ b → b ≡ pos 0 → ⊥
-by_positive p e = <ℤ_irrefl (subst (λ (z : ℤ). pos 0 <ℤ z) e p)
-
 by_negative : {b : ℤ} → b <ℤ pos 0 → b ≡ pos 0 → ⊥
 by_negative p e = <ℤ_irrefl (subst (λ (z : ℤ). z <ℤ pos 0) e p)
-
-no_minus_one : {b : ℤ} → pos 0 <ℤ b → b ≡ negsuc 0 → ⊥
-no_minus_one p e = (subst (λ (z : ℤ). pos 0 <ℤ z) e p).lt
-
-pub record Plain (a b : ℤ) : Type 0 where
-  pub asks : (0 < of_z w32 b) × InRange (quot_z (back w32 a) (back w32 b))
-  pub is : back w32 (quot_z (back w32 a) (back w32 b)) ≡ quotient a b
-
-plain : (a b : ℤ) → InRange a → InRange b → (b ≡ pos 0 → ⊥) → (b ≡ negsuc 0 → ⊥) → rounded_down a b ≡ quot_z a b → Plain a b
-plain a b f g z m e =
-    let in_range : InRange (quot_z a b) = record { sfits = lt_of_le_of_lt (size a b m) f.sfits } in
-    record {
-      asks = (not_zero b g z, rw (read_back a f.sfits, read_back b g.sfits) in_range);
-      is =
-          rw (read_back a f.sfits, read_back b g.sfits)
-          (read_back (quot_z a b) in_range.sfits ∙ sym (quotient_within a b e in_range));
-    }
-
-pub plain_positive : (a b : ℤ) → InRange a → InRange b → pos 0 ≤ℤ a → pos 0 <ℤ b → Plain a b
-plain_positive a b f g h p = plain a b f g (by_positive p) (no_minus_one p) (like_positive a b h p)
-
-pub plain_negative : (a b : ℤ) → InRange a → InRange b → a ≤ℤ pos 0 → b <ℤ pos 0 → (b ≡ negsuc 0 → ⊥) → Plain a b
-plain_negative a b f g h p m = plain a b f g (by_negative p) m (like_negative a b h p)
 
 -- ---- "(a + z) / b + y" on what is read back
 
@@ -126,20 +122,8 @@ steps a b z y f g n x h =
       is = λ e. rw (same-a, same-b, same-x, same-q) (read_back (quot_z (a +ℤ z) b +ℤ y) low.sfits ∙ sym (quotient_within a b e low));
     }
 
--- z goes towards zero. The code's z is 1 or -1 and its y -1; that no step leaves the range hangs only on z being no further from zero than 1, and y
--- no further than z.
-pub raised_steps : (a b z y : ℤ) → nat_abs z ≤ 1 → pos 0 ≤ℤ z → nat_abs y ≤ nat_abs z → InRange a → InRange b → a <ℤ pos 0 → pos 0 <ℤ b →
-    Steps a b z y
-raised_steps (pos n) b z y l h m f g k p = absurd (not-suc-le-zero (ltb→lt n zero k.lt))
-raised_steps (negsuc n) b (negsuc z) y l h m f g k p = absurd h.le
-raised_steps (negsuc n) b (pos z) y l h m f g k p =
-    steps (negsuc n) b (pos z) y f g (by_positive p) (record { sfits = omega (arith, near (ltb z (suc n)) refl) })
-    (omega (arith, m, near (ltb z (suc n)) refl, size (negsuc n +ℤ pos z) b (no_minus_one p)))
-  where
-    near : (t : Bool) → ltb z (suc n) ≡ t → mag (cond t (negsuc (suc n - suc z)) (pos (z - suc n))) + z < 2147483648
-    near true e = let i : n < 2147483648 = f.sfits in omega (arith, ltb-true z (suc n) e)
-    near false e = omega (arith, l, ltb-false z (suc n) e)
-
+-- z goes towards zero. The code's z is -1 and its y -1; that no step leaves the range hangs only on z being no further from zero than 1, and y no
+-- further than z.
 pub lessened_steps : (a b z y : ℤ) → nat_abs z ≤ 1 → z ≤ℤ pos 0 → nat_abs y ≤ nat_abs z → InRange a → InRange b → pos 0 <ℤ a → b <ℤ pos 0 →
     Steps a b z y
 lessened_steps (negsuc n) b z y l h m f g k p = absurd k.lt

@@ -44,35 +44,27 @@ pub fn mul(a: i32, b: i32) -> i32
     of_word(wrapping_mul(to_word(a), to_word(b)))
 }
 
-// The machine drops a fraction towards zero. Between unlike signs that is upwards: there the dividend goes one nearer to zero first, and the quotient
-// one down. By hand: in a call of `div_euclid` or `wrapping_div` there is no place for the slips that the edits of these two functions make.
-fn by_positive(a: i32, b: i32) -> i32
-    requires { pos 0 <ℤ b }
-    ensures { result ≡ quotient a b }
-{
-    if a < 0 { (a + 1) / b - 1 } else { a / b }
-}
-
-// -2147483648 by -1 has no machine quotient, so the divisor -1 negates.
+// By a negative divisor. The machine drops a fraction towards zero. Between unlike signs that is upwards: there the dividend goes one nearer to zero
+// first, and the quotient one down. -2147483648 by -1 has no machine quotient, and wraps.
+#[tactic(auto, using(crate::proofs::TowardsZero::wrapping_div_is))]
 fn by_negative(a: i32, b: i32) -> i32
     requires { b <ℤ pos 0 }
     ensures { result ≡ quotient a b }
 {
     if a > 0 {
         (a - 1) / b - 1
-    } else if b == -1 {
-        sub(0, a)
     } else {
-        a / b
+        a.wrapping_div(b)
     }
 }
 
 // The sign goes first, so that by a positive divisor neither 0 nor -1 has to be looked for.
+#[tactic(auto, using(crate::proofs::TowardsZero::div_euclid_is))]
 pub fn div(a: i32, b: i32) -> i32
     ensures { result ≡ quotient a b }
 {
     if b > 0 {
-        by_positive(a, b)
+        a.div_euclid(b)
     } else if b < 0 {
         by_negative(a, b)
     } else {

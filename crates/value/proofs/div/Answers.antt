@@ -1,4 +1,4 @@
--- `value::div` meets its contract, by the sign of the divisor.
+-- `value::div` meets its contract, by the sign of the divisor; by a positive one as the check finds by `div_euclid_is`.
 use Rattle.std.proofs.Common.{pos}
 use Rattle.rules.proofs.DivisionLaws.{antisymmetric, quotient_by_zero}
 use Rattle.value.proofs.Machine.{not_less, zero_fits}
